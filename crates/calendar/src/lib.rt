@@ -1,0 +1,5 @@
+// stub
+pub enum Month {
+    Number(usize),
+    Absent,
+}

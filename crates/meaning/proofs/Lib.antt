@@ -1,0 +1,4 @@
+pub mod Basics
+pub mod Walks
+pub mod Orders
+pub mod Sound

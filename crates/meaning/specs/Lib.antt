@@ -1,0 +1,11 @@
+pub mod Walk
+pub mod Bytes
+pub mod Order
+pub mod Block
+pub mod Document
+pub mod Nodes
+pub mod Rules
+pub mod Select
+pub mod Day
+pub mod Window
+pub mod Answer
