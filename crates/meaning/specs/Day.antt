@@ -85,7 +85,7 @@ turns doc d i = eqb (doc .begin i) d || eqb (doc .end i) d
 
 -- the period's first day, and each later one on which a version that the rule reads begins or ends
 unfoldable pub isChange : Doc → Rule → Rule → ℕ → Bool
-isChange doc q r d = eqb d (r .begin) || any (λ i. reads doc q r i && turns doc d i) 0 (doc .size)
+isChange doc q r d = eqb (r .begin) d || any (λ i. reads doc q r i && turns doc d i) 0 (doc .size)
 
 unfoldable pub changeDays : Doc → Rule → Rule → List ℕ
 changeDays doc q r = pick (isChange doc q r) (r .begin) (r .end - r .begin)

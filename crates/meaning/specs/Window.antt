@@ -48,7 +48,7 @@ module _ (doc : Doc) (p : ℕ → Bool) where
 
   -- f is a valued field version of a selected version, both present, of item number n
   unfoldable pub under : Rule → ℕ → ℕ → Bool
-  under r n f = any (λ v. gives doc p r v f && present doc p r v && eqb (numberOf doc v) n) 0 (doc .size)
+  under r n f = any (λ v. present doc p r v && gives doc p r v f && eqb (numberOf doc v) n) 0 (doc .size)
 
   -- what a window counts for item number n: valued field versions, or those whose value no lower one has
   unfoldable pub counts : Rule → ℕ → ℕ → Bool
@@ -69,7 +69,7 @@ module _ (doc : Doc) (p : ℕ → Bool) where
 
   -- field version f, of a selected version v, both present, is no number, or follows one from which it differs too much
   unfoldable pub datatypeIn : Rule → ℕ → ℕ → Bool
-  datatypeIn r f v = gives doc p r v f && present doc p r v && (not (isNumber doc f) || any (jumps r (numberOf doc v) f) 0 (doc .size))
+  datatypeIn r f v = present doc p r v && gives doc p r v f && (not (isNumber doc f) || any (jumps r (numberOf doc v) f) 0 (doc .size))
 
   -- by the rule's kind: a selected version offends, for a datatype a field version
   unfoldable pub breaksIn : Rule → Rule → ℕ → ℕ → Bool

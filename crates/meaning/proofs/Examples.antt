@@ -1,0 +1,95 @@
+-- The 13 marked examples of document 01 in one statement, from the bytes of the two images; examples for the slips and the edges beside them.
+use mathlib.Core.Path.{_≡_, refl}
+use mathlib.Core.List.{List, [], _∷_, map}
+use Prim.Native.Nat.{ℕ}
+use lib.IntN.{ℤ, pos, negsuc}
+use Rattle.meaning.specs.declared.Node.{Node}
+use Rattle.meaning.specs.declared.Verdict.the-variants.{Holds, Fails, Refused as Unjudged}
+use Rattle.meaning.specs.declared.Listed.the-variants.{Stored, Refused as Unlisted}
+use Rattle.meaning.specs.Document.{ofNodes}
+use Rattle.meaning.specs.Nodes.{docOf}
+use Rattle.meaning.proofs.Asking.{Asked, onRule, onSlice, onChanges, Answered, told, stored, Example, answers, expecteds, by-computing}
+use Rattle.meaning.proofs.ImageBytes.{bankNodes, bankRules, slipNodes, slipRules}
+use Rattle.meaning.proofs.Opened.{opened}
+
+abbrev ex : Asked → Answered → Example
+ex q a = record { asked = q; expected = a }
+
+-- the seven verdicts, four slices and two lists of change days, each list lent with exactly the room that it needs
+unfoldable pub marked : List Example
+marked =
+    ex (onRule 0) (told (Holds 4))
+    ∷ ex (onRule 1) (told (Fails 0 10 1))
+    ∷ ex (onRule 2) (told (Fails 200 3 3))
+    ∷ ex (onRule 3) (told (Fails 400 10 5))
+    ∷ ex (onRule 4) (told (Fails 0 8 1))
+    ∷ ex (onRule 5) (told (Fails 400 10 4))
+    ∷ ex (onRule 6) (told (Holds 4))
+    ∷ ex (onSlice 99 0) (stored (Stored 0) [])
+    ∷ ex (onSlice 200 4) (stored (Stored 4) (1 ∷ 3 ∷ 5 ∷ 8 ∷ []))
+    ∷ ex (onSlice 300 4) (stored (Stored 4) (1 ∷ 10 ∷ 12 ∷ 14 ∷ []))
+    ∷ ex (onSlice 450 3) (stored (Stored 3) (1 ∷ 10 ∷ 12 ∷ []))
+    ∷ ex (onChanges 0 4) (stored (Stored 4) (0 ∷ 100 ∷ 300 ∷ 500 ∷ []))
+    ∷ ex (onChanges 2 6) (stored (Stored 6) (0 ∷ 100 ∷ 200 ∷ 300 ∷ 400 ∷ 500 ∷ []))
+    ∷ []
+
+pub bank-examples : answers bankNodes bankRules marked ≡ expecteds marked
+unfolding opened marked bankNodes bankRules
+bank-examples = by-computing bankNodes bankRules marked refl
+
+-- refusals 11 and 12, and a list with more room than it needs
+unfoldable pub edges : List Example
+edges =
+    ex (onRule 7) (told (Unjudged 11 0))
+    ∷ ex (onSlice 36525 9) (stored (Unlisted 11 0) (0 ∷ 0 ∷ 0 ∷ 0 ∷ 0 ∷ 0 ∷ 0 ∷ 0 ∷ 0 ∷ []))
+    ∷ ex (onSlice 200 3) (stored (Unlisted 12 0) (0 ∷ 0 ∷ 0 ∷ []))
+    ∷ ex (onSlice 200 6) (stored (Stored 4) (1 ∷ 3 ∷ 5 ∷ 8 ∷ 0 ∷ 0 ∷ []))
+    ∷ ex (onChanges 1 2) (stored (Unlisted 11 0) (0 ∷ 0 ∷ []))
+    ∷ ex (onChanges 7 2) (stored (Unlisted 11 0) (0 ∷ 0 ∷ []))
+    ∷ ex (onChanges 0 3) (stored (Unlisted 12 0) (0 ∷ 0 ∷ 0 ∷ []))
+    ∷ []
+
+pub edge-examples : answers bankNodes bankRules edges ≡ expecteds edges
+unfolding opened edges bankNodes bankRules
+edge-examples = by-computing bankNodes bankRules edges refl
+
+-- text 70 is not the number 70; two versions of one item are one holder; 2,147,483,647 to −2,147,483,648 is no step of 1
+unfoldable pub slips : List Example
+slips =
+    ex (onRule 0) (told (Holds 2))
+    ∷ ex (onRule 1) (told (Holds 1))
+    ∷ ex (onRule 2) (told (Fails 0 15 1))
+    ∷ ex (onRule 3) (told (Fails 50 10 2))
+    ∷ []
+
+pub slip-examples : answers slipNodes slipRules slips ≡ expecteds slips
+unfolding opened slips slipNodes slipRules
+slip-examples = by-computing slipNodes slipRules slips refl
+
+abbrev item : ℕ → ℕ → ℕ → Node
+item n p k = record { kind = 1; vkind = 0; name = n; parent = p; begin = 0; end = 0; value = pos 0; item = k; spare = 0 }
+
+abbrev version : ℕ → ℕ → ℕ → ℕ → ℤ → Node
+version p b e k z = record { kind = 2; vkind = k; name = 0; parent = p; begin = b; end = e; value = z; item = 0; spare = 0 }
+
+-- the bytes are those of the bank as 01 lists it: names, parents and item numbers; parents, periods, value kinds and values
+pub bank-listed : docOf bankNodes ≡ ofNodes (
+    item 1 65535 1
+    ∷ version 0 100 500 0 (pos 0)
+    ∷ item 2 1 2
+    ∷ version 2 100 300 0 (pos 0)
+    ∷ item 3 3 3
+    ∷ version 4 100 300 2 (pos 70)
+    ∷ item 4 3 4
+    ∷ version 6 100 200 1 (pos 2150)
+    ∷ version 6 200 300 1 (negsuc 2149)
+    ∷ item 2 1 5
+    ∷ version 9 300 500 0 (pos 0)
+    ∷ item 3 10 6
+    ∷ version 11 300 500 2 (pos 70)
+    ∷ item 4 10 7
+    ∷ version 13 300 400 1 (pos 2300)
+    ∷ []
+    )
+unfolding opened bankNodes
+bank-listed = refl
