@@ -27,3 +27,5 @@ pub mod Asking
 pub mod Opened
 pub mod ImageBytes
 pub mod Examples
+pub mod Unique
+pub mod Theorems
