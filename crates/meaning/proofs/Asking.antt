@@ -18,9 +18,10 @@ use Rattle.meaning.specs.Nodes.{docOf, accept, readNodes}
 use Rattle.meaning.specs.Rules.{isSequenced, ruleAt, rulesOf, readRules}
 use Rattle.meaning.specs.Day.{offender, changeDays, onDays}
 use Rattle.meaning.specs.Window.{inWindows}
-use Rattle.meaning.specs.Answer.{referredBy, judged, verdictAfter, verdict, storing, lentAfter, sliceAnswer, sliceLent, readChanges, changesOf, changesAnswer, changesLent}
+use Rattle.meaning.specs.Answer.{referredBy, judged, verdictAfter, readVerdict, verdict, storing, lentAfter, sliceAnswer, sliceLent, readChanges, changesOf, changesAnswer, changesLent}
 use Rattle.meaning.proofs.Basics.{went}
 use Rattle.meaning.proofs.Orders.{then-accepted}
+use Rattle.meaning.proofs.Says.{says}
 use Rattle.meaning.proofs.Sound.{Sound}
 use Rattle.meaning.proofs.Accepted.{accepted-sound}
 use Rattle.meaning.proofs.Over.{over}
@@ -67,24 +68,25 @@ after-same (Refused k i) a b h = refl
 
 unfoldable pub quickVerdict : List ℕ → List ℕ → ℕ → Verdict
 quickVerdict nodes rules k =
-    let rs = rulesOf rules in
-    verdictAfter (andThen (readNodes nodes) (andThen (readRules rules) (need (ltb k (length rs)) 11 0)))
-    (quickJudged (docOf nodes) (referredBy rs k) (ruleAt rs k))
+    verdictAfter (readVerdict nodes rules k) (quickJudged (docOf nodes) (referredBy (rulesOf rules) k) (ruleAt (rulesOf rules) k))
 
 -- an accepted image holds a sound document
 pub nodes-document : (nodes : List ℕ) → readNodes nodes ≡ Accepted → Sound (docOf nodes)
 unfolding readNodes
 nodes-document nodes e = accepted-sound (docOf nodes) (then-accepted (inOrder (imageTests nodeForm nodes)) (accept (docOf nodes)) e .1)
 
+nodes-read : (nodes rules : List ℕ) (k : ℕ) → readVerdict nodes rules k ≡ Accepted → readNodes nodes ≡ Accepted
+unfolding readVerdict
+nodes-read nodes rules k e = (simp says at e) .0
+
 pub verdict-quick : (nodes rules : List ℕ) (k : ℕ) → verdict nodes rules k ≡ quickVerdict nodes rules k
 unfolding verdict quickVerdict
 verdict-quick nodes rules k =
-    let rest = andThen (readRules rules) (need (ltb k (length (rulesOf rules))) 11 0) in
-    after-same (andThen (readNodes nodes) rest) _ _
-    (λ e. judged-quick (docOf nodes) (nodes-document nodes (then-accepted (readNodes nodes) rest e .0)) (referredBy (rulesOf rules) k) (ruleAt (rulesOf rules) k))
+    after-same (readVerdict nodes rules k) _ _
+    (λ e. judged-quick (docOf nodes) (nodes-document nodes (nodes-read nodes rules k e)) (referredBy (rulesOf rules) k) (ruleAt (rulesOf rules) k))
 
 unfoldable pub quickChanges : List ℕ → List ℕ → ℕ → List ℕ
-quickChanges nodes rules k = let rs = rulesOf rules in quickDays (docOf nodes) (referredBy rs k) (ruleAt rs k)
+quickChanges nodes rules k = quickDays (docOf nodes) (referredBy (rulesOf rules) k) (ruleAt (rulesOf rules) k)
 
 changes-quick : (nodes rules : List ℕ) (k : ℕ) → changesOf nodes rules k ≡ quickChanges nodes rules k
 unfolding changesOf quickChanges

@@ -42,10 +42,11 @@ use Rattle.meaning.proofs.Checks as Checks
 -- 1. Acceptance: an image is accepted exactly when it is sound, ..
 pub nodes-accepted : (image : List ℕ) → (readNodes image ≡ Accepted) ↔ SoundNodes image
 unfolding readNodes
-nodes-accepted image =
-    (λ e. let w = then-accepted (inOrder (imageTests nodeForm image)) (accept (docOf image)) e in
-        record { image-form = Images.image-sound nodeForm image (omega arith) (w .0); document = Accept.accepted-sound (docOf image) (w .1) },
-    λ s. then-both (inOrder (imageTests nodeForm image)) (accept (docOf image)) (Images.sound-image nodeForm image (s .image-form)) (Accept.sound-accepted (docOf image) (s .document)))
+nodes-accepted image = (
+  λ e. let w = then-accepted (inOrder (imageTests nodeForm image)) (accept (docOf image)) e in
+      record { image-form = Images.image-sound nodeForm image (omega arith) (w .0); document = Accept.accepted-sound (docOf image) (w .1) },
+  λ s. then-both (inOrder (imageTests nodeForm image)) (accept (docOf image)) (Images.sound-image nodeForm image (s .image-form)) (Accept.sound-accepted (docOf image) (s .document)),
+)
 
 pub rules-accepted : (image : List ℕ) → (readRules image ≡ Accepted) ↔ SoundRules image
 rules-accepted image = (RulesSound.rules-sound image, RulesSound.sound-rules image)

@@ -32,11 +32,12 @@ verdictAfter Accepted found = found
 verdictAfter (Refused number place) found = Unjudged number place
 
 -- the call `verdict`: nodes, rules, then 11 where there is no such rule
+unfoldable pub readVerdict : List ℕ → List ℕ → ℕ → Reading
+readVerdict nodes rules k = andThen (readNodes nodes) (andThen (readRules rules) (need (ltb k (length (rulesOf rules))) 11 0))
+
 unfoldable pub verdict : List ℕ → List ℕ → ℕ → Verdict
 verdict nodes rules k =
-    let rs = rulesOf rules in
-    verdictAfter (andThen (readNodes nodes) (andThen (readRules rules) (need (ltb k (length rs)) 11 0)))
-    (judged (docOf nodes) (referredBy rs k) (ruleAt rs k))
+    verdictAfter (readVerdict nodes rules k) (judged (docOf nodes) (referredBy (rulesOf rules) k) (ruleAt (rulesOf rules) k))
 
 -- a list goes to a lent one with enough room, else 12
 unfoldable pub storing : Reading → List ℕ → List ℕ → Listed
@@ -61,11 +62,10 @@ sliceLent nodes d lent = lentAfter (sliceAnswer nodes d lent) (slice (docOf node
 -- the call `change_days`: nodes, rules, then 11 for no such rule or one that is not sequenced, then 12
 unfoldable pub readChanges : List ℕ → List ℕ → ℕ → Reading
 readChanges nodes rules k =
-    let rs = rulesOf rules in
-    andThen (readNodes nodes) (andThen (readRules rules) (need (ltb k (length rs) && isSequenced (ruleAt rs k)) 11 0))
+    andThen (readNodes nodes) (andThen (readRules rules) (need (ltb k (length (rulesOf rules)) && isSequenced (ruleAt (rulesOf rules) k)) 11 0))
 
 unfoldable pub changesOf : List ℕ → List ℕ → ℕ → List ℕ
-changesOf nodes rules k = let rs = rulesOf rules in changeDays (docOf nodes) (referredBy rs k) (ruleAt rs k)
+changesOf nodes rules k = changeDays (docOf nodes) (referredBy (rulesOf rules) k) (ruleAt (rulesOf rules) k)
 
 unfoldable pub changesAnswer : List ℕ → List ℕ → ℕ → List ℕ → Listed
 changesAnswer nodes rules k lent = storing (readChanges nodes rules k) (changesOf nodes rules k) lent
