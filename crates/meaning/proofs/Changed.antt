@@ -11,7 +11,8 @@ use lib.Seq.{take-set-lt, take-set-le, drop-set-add, getD-set-same, getD-set-oth
 use Rattle.meaning.specs.declared.Reading.the-variants.{Accepted, Refused}
 use Rattle.meaning.specs.Bytes.{byte, four}
 use Rattle.meaning.specs.Order.{inOrder}
-use Rattle.meaning.specs.Block.{Form, nodeForm, ruleForm, check, blockAt, checkFits, readBlock, sizeFits, imageTests}
+use Rattle.meaning.specs.declared.Form.{Form}
+use Rattle.meaning.specs.Block.{nodeForm, ruleForm, check, blockAt, checkFits, readBlock, sizeFits, imageTests}
 use Rattle.meaning.specs.Nodes.{readNodes}
 use Rattle.meaning.specs.Rules.{readRules}
 use Rattle.meaning.proofs.Basics.{le-or-lt}

@@ -12,7 +12,8 @@ use lib.Seq.{getD-drop}
 use Rattle.meaning.specs.declared.Reading.the-variants.{Accepted}
 use Rattle.meaning.specs.Bytes.{byte}
 use Rattle.meaning.specs.Order.{inOrder}
-use Rattle.meaning.specs.Block.{Form, allZero, blocks, blockAt, counted, checkFits, headerFits, restZero, readBlock, sizeFits, imageTests}
+use Rattle.meaning.specs.declared.Form.{Form}
+use Rattle.meaning.specs.Block.{allZero, blocks, blockAt, counted, checkFits, headerFits, restZero, readBlock, sizeFits, imageTests}
 use Rattle.meaning.proofs.Basics.{went}
 use Rattle.meaning.proofs.Orders.{order-passed, passed-order}
 use Rattle.meaning.proofs.Says.{says}

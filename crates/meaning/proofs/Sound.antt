@@ -6,7 +6,8 @@ use mathlib.Core.List.{List}
 use Prim.Native.Nat.{ℕ, suc, _+_, _%_, _≤_, _<_}
 use lib.ListN.{length, take}
 use Rattle.meaning.specs.Bytes.{byte, four}
-use Rattle.meaning.specs.Block.{Form, nodeForm, ruleForm, check, blocks, blockAt, counted, recordAt, records, recordOf}
+use Rattle.meaning.specs.declared.Form.{Form}
+use Rattle.meaning.specs.Block.{nodeForm, ruleForm, check, blocks, blockAt, counted, recordAt, records, recordOf}
 use Rattle.meaning.specs.Document.{Doc, node}
 use Rattle.meaning.specs.Nodes.{nodeFields, depth, docOf}
 use Rattle.meaning.specs.Rules.{ruleAt, rulesOf, ruleFields}

@@ -4,18 +4,12 @@ use mathlib.Core.Bool.{Bool, true, false, _&&_, cond}
 use mathlib.Core.List.{List, [], _∷_}
 use lib.Dec.{eqb, leb}
 use lib.ListN.{length, take, drop}
+use Rattle.meaning.specs.declared.Form.{Form}
 use Rattle.meaning.specs.declared.Reading.{Reading}
 use Rattle.meaning.specs.Bytes.{byte, two, four}
 use Rattle.meaning.specs.Order.{need, andThen, Test}
 
--- one kind of image: the block's kind byte, bytes of a record, records of a full block, most blocks, and what is added to a refusal's number
-pub record Form : Type 0 where
-  pub kind : ℕ
-  pub size : ℕ
-  pub each : ℕ
-  pub most : ℕ
-  pub base : ℕ
-
+-- the two kinds of image
 abbrev pub nodeForm : Form
 nodeForm = record { kind = 1; size = 20; each = 25; most = 40; base = 0 }
 

@@ -25,6 +25,16 @@ pub enum Listed {
     Refused(usize, usize),
 }
 
+// One kind of image: the block's kind byte, the bytes of a record, the records of a full block, the most blocks, and what is
+// added to the number of a refusal.
+pub struct Form {
+    pub kind: u8,
+    pub size: usize,
+    pub each: usize,
+    pub most: usize,
+    pub base: usize,
+}
+
 // A node record, field by field; spare is bytes 18 and 19.
 pub struct Node {
     pub kind: u8,
