@@ -8,7 +8,7 @@ use Rattle.meaning.specs.Nodes.{documentTests, accept}
 use Rattle.meaning.proofs.Sound.{Version, SoundRecords, Sound}
 use Rattle.meaning.proofs.Orders.{order-passed, passed-order}
 use Rattle.meaning.proofs.Says.{says}
-use Rattle.meaning.proofs.Records.{period, sound-records}
+use Rattle.meaning.proofs.Records.{version-at, sound-records}
 use Rattle.meaning.proofs.Places.{placed}
 use Rattle.meaning.proofs.Numbers.{numbered}
 use Rattle.meaning.proofs.Roots.{rooted}
@@ -16,7 +16,7 @@ use Rattle.meaning.proofs.Roots.{rooted}
 module _ (doc : Doc) where
   -- a version has a period
   pub periods : SoundRecords doc → {i : ℕ} (v : ℕ) → Version doc i v → doc .begin v < doc .end v
-  periods r v w = period doc v (r .table v (w .here)) (w .kind)
+  periods r v w = version-at doc v (r .table v (w .here)) (w .kind) .period
 
   -- what is accepted is sound, and what is sound is accepted
   pub accepted-sound : accept doc ≡ Accepted → Sound doc

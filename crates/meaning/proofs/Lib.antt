@@ -2,6 +2,8 @@ pub mod Basics
 pub mod Walks
 pub mod Orders
 pub mod Says
+pub mod Rows
+pub mod Tables
 pub mod Sound
 pub mod Checks
 pub mod Images

@@ -1,30 +1,23 @@
--- Every record passes its tests exactly where `SoundRecords` holds; what the table says of a period; how depth grows from parent to child.
+-- Every record passes its tests exactly where `SoundRecords` holds; a version's row from its kind; how depth grows from parent to child.
 use mathlib.Core.Path.{_≡_, refl}
-use mathlib.Core.Logic.{_↔_, _⊎_, inl, inr, ⊎-elim, Iff·rfl}
+use mathlib.Core.Logic.{_↔_, _⊎_, ⊎-elim, Iff·rfl}
 use mathlib.Core.Bool.{true, cond, or-false}
 use Prim.Native.Nat.{ℕ, zero, suc, _+_, _≤_, _<_}
 use native.Mathlib.Omega.{arith}
 use borrow.Author.Tests.{eq-eqb, ne-eqb}
 use Rattle.meaning.specs.declared.Reading.the-variants.{Accepted}
 use Rattle.meaning.specs.Document.{Doc, node, isItem}
-use Rattle.meaning.specs.Nodes.{itemFields, versionFields, nodeFields, parentFits, itemsUp, depth, readRecord}
+use Rattle.meaning.specs.Nodes.{parentFits, itemsUp, depth, readRecord}
+use Rattle.meaning.proofs.Rows.{ItemRow, VersionRow}
 use Rattle.meaning.proofs.Sound.{SoundRecords}
-use Rattle.meaning.proofs.Basics.{or-cases, le-or-lt}
+use Rattle.meaning.proofs.Basics.{le-or-lt}
 use Rattle.meaning.proofs.Says.{says}
+use Rattle.meaning.proofs.Tables.{node-row}
 
 module _ (doc : Doc) where
-  -- a record of the table is an item, or a version with a period
-  pub kinds : (i : ℕ) → nodeFields (node doc i) ≡ true → (doc .kind i ≡ 1) ⊎ ((doc .kind i ≡ 2) × (doc .begin i < doc .end i) × (doc .end i ≤ 36525))
-  unfolding nodeFields itemFields versionFields
-  kinds i e =
-      ⊎-elim (λ x. inl (omega (arith, simp says at x))) (λ x. inr (omega (arith, simp says at x)))
-      (or-cases (itemFields (node doc i)) (versionFields (node doc i)) e)
-
-  pub period : (i : ℕ) → nodeFields (node doc i) ≡ true → doc .kind i ≡ 2 → doc .begin i < doc .end i
-  period i e k = ⊎-elim (λ x. absurd (omega arith)) (λ x. x .1) (kinds i e)
-
-  pub period-end : (i : ℕ) → nodeFields (node doc i) ≡ true → doc .kind i ≡ 2 → doc .end i ≤ 36525
-  period-end i e k = ⊎-elim (λ x. absurd (omega arith)) (λ x. x .2) (kinds i e)
+  -- a record of kind 2 has a version's row
+  pub version-at : (i : ℕ) → ItemRow (node doc i) ⊎ VersionRow (node doc i) → doc .kind i ≡ 2 → VersionRow (node doc i)
+  version-at i t k = ⊎-elim (λ x. absurd (omega arith)) (λ x. x) t
 
   -- 6: record 0, and a later record of the table
   root-fits : (parentFits doc 0 ≡ true) ↔ ((doc .kind 0 ≡ 1) × (doc .parent 0 ≡ 65535))
@@ -34,19 +27,19 @@ module _ (doc : Doc) where
   abbrev Kin : ℕ → Type 0
   Kin i = (doc .parent i < i) × (doc .kind i ≡ 2 → doc .kind (doc .parent i) ≡ 1) × (doc .kind i ≡ 1 → doc .kind (doc .parent i) ≡ 2)
 
-  later-fits : (i : ℕ) → 0 < i → nodeFields (node doc i) ≡ true → (parentFits doc i ≡ true) ↔ Kin i
+  later-fits : (i : ℕ) → 0 < i → ItemRow (node doc i) ⊎ VersionRow (node doc i) → (parentFits doc i ≡ true) ↔ Kin i
   unfolding parentFits
   later-fits zero h t = absurd (omega arith)
   later-fits (suc i) h t = (
     λ e. ((simp says at e) .0, λ k. (simp says at (rw k at e)) .1 .1, λ k. (simp (says, or-false) at (rw k at e)) .1 .1),
-    λ q. ⊎-elim (λ k. rw k (simp (says, or-false) (q .0, (refl, q .2 k)))) (λ k. rw (k .0) (simp says (q .0, (refl, q .1 (k .0))))) (kinds (suc i) t),
+    λ q. ⊎-elim (λ x. rw (x .kind) (simp (says, or-false) (q .0, (refl, q .2 (x .kind))))) (λ x. rw (x .kind) (simp says (q .0, (refl, q .1 (x .kind))))) t,
   )
 
   -- 4, 5, 6, 8: the tests of every record are the statement
   pub sound-records : ((i : ℕ) → i < doc .size → readRecord doc i ≡ Accepted) ↔ SoundRecords doc
   unfolding readRecord
   sound-records = (
-    λ f. let g = simp says at f in
+    λ f. let g = simp (says, node-row) at f in
         let root : 0 < doc .size → (doc .kind 0 ≡ 1) × (doc .parent 0 ≡ 65535) = λ h. root-fits .0 (g 0 h .1 .1 .0) in
         let kin : (i : ℕ) → 0 < i → i < doc .size → Kin i = λ i z h. later-fits i z (g i h .1 .0) .0 (g i h .1 .1 .0) in
         record {
@@ -63,7 +56,7 @@ module _ (doc : Doc) where
         (λ (z : i ≤ 0). let e : i ≡ 0 = omega arith in rw e (root-fits .1 (r .root-item (omega arith), r .root-parent (omega arith))))
         (λ (z : 0 < i). later-fits i z (r .table i h) .1 (r .lower i z h, r .of-item i z h, r .of-version i z h))
         (le-or-lt i 0) in
-        simp says (λ i h. (r .spare i h, (r .table i h, (fits i h, r .shallow i h)))),
+        simp (says, node-row) (λ i h. (r .spare i h, (r .table i h, (fits i h, r .shallow i h)))),
   )
 
   -- depth: at record 0, and at an item

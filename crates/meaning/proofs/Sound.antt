@@ -1,7 +1,6 @@
 -- What an accepted image satisfies, said plainly: block form, field tables, parents, depth, order, nesting, item numbers, the root.
 use mathlib.Core.Path.{_≡_}
 use mathlib.Core.Logic.{_⊎_}
-use mathlib.Core.Bool.{Bool, true, false}
 use mathlib.Core.List.{List}
 use Prim.Native.Nat.{ℕ, suc, _+_, _%_, _≤_, _<_}
 use lib.ListN.{length, take}
@@ -9,8 +8,9 @@ use Rattle.meaning.specs.Bytes.{byte, four}
 use Rattle.meaning.specs.declared.Form.{Form}
 use Rattle.meaning.specs.Block.{nodeForm, ruleForm, check, blocks, blockAt, counted, recordAt, records, recordOf}
 use Rattle.meaning.specs.Document.{Doc, node}
-use Rattle.meaning.specs.Nodes.{nodeFields, depth, docOf}
-use Rattle.meaning.specs.Rules.{ruleAt, rulesOf, ruleFields}
+use Rattle.meaning.specs.Nodes.{depth, docOf}
+use Rattle.meaning.specs.Rules.{ruleAt, rulesOf}
+use Rattle.meaning.proofs.Rows.{ItemRow, VersionRow, RuleRow}
 
 -- 2, 3, 4: block b of an image
 pub record SoundBlock (form : Form) (image : List ℕ) (b : ℕ) : Type 0 where
@@ -44,7 +44,7 @@ pub record Item (doc : Doc) (i : ℕ) : Type 0 where
 -- 4, 5, 6, 8: each record by itself, its parent, its depth
 pub record SoundRecords (doc : Doc) : Type 0 where
   pub spare : (i : ℕ) → i < doc .size → doc .spare i ≡ 0
-  pub table : (i : ℕ) → i < doc .size → nodeFields (node doc i) ≡ true
+  pub table : (i : ℕ) → i < doc .size → ItemRow (node doc i) ⊎ VersionRow (node doc i)
   pub root-item : 0 < doc .size → doc .kind 0 ≡ 1
   pub root-parent : 0 < doc .size → doc .parent 0 ≡ 65535
   pub lower : (i : ℕ) → 0 < i → i < doc .size → doc .parent i < i
@@ -86,7 +86,7 @@ pub record SoundRules (image : List ℕ) : Type 0 where
   pub image-form : SoundImage ruleForm image
   pub spare-39 : (k : ℕ) → k < length (rulesOf image) → byte (recordOf ruleForm image k) 39 ≡ 0
   pub spare-42 : (k at : ℕ) → k < length (rulesOf image) → 42 ≤ at → at < 50 → byte (recordOf ruleForm image k) at ≡ 0
-  pub table : (k : ℕ) → k < length (rulesOf image) → ruleFields (ruleAt (rulesOf image) k) ≡ true
+  pub table : (k : ℕ) → k < length (rulesOf image) → RuleRow (ruleAt (rulesOf image) k)
   pub referred : (k : ℕ) → k < length (rulesOf image) → ruleAt (rulesOf image) k .kind ≡ 3
       → (ruleAt (rulesOf image) k .referred < length (rulesOf image))
       × ((ruleAt (rulesOf image) (ruleAt (rulesOf image) k .referred) .kind ≡ 1) ⊎ (ruleAt (rulesOf image) (ruleAt (rulesOf image) k .referred) .kind ≡ 2))
