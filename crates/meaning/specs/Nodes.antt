@@ -18,8 +18,12 @@ unfoldable pub nodeIn : List ℕ → Node
 nodeIn s =
     record { kind = byte s 0; vkind = byte s 1; name = two s 2; parent = two s 4; begin = two s 6; end = two s 8; value = signed (four s 10); item = four s 14; spare = two s 18 }
 
+-- the records of an image, and the document they make up
+unfoldable pub nodesOf : List ℕ → List Node
+nodesOf image = listed (λ i. nodeIn (recordOf nodeForm image i)) 0 (records nodeForm image)
+
 unfoldable pub docOf : List ℕ → Doc
-docOf image = ofNodes (listed (λ i. nodeIn (recordOf nodeForm image i)) 0 (records nodeForm image))
+docOf image = ofNodes (nodesOf image)
 
 -- a period lies within days 0 to 36,524
 abbrev pub isPeriod : ℕ → ℕ → Bool
