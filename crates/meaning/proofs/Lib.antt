@@ -26,6 +26,7 @@ pub mod Faults
 pub mod Windows
 pub mod Hops
 pub mod Asking
+pub mod Decoded
 pub mod Opened
 pub mod ImageBytes
 pub mod Examples
