@@ -1,5 +1,6 @@
 pub mod Basics
 pub mod Walks
+pub mod Loops
 pub mod Orders
 pub mod Says
 pub mod Rows

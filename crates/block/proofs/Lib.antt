@@ -1,0 +1,3 @@
+pub mod Bytewise
+pub mod Answers
+pub mod Places

@@ -1,0 +1,14 @@
+-- The laws behind the tests on columns.
+pub mod Early
+pub mod Rows
+pub mod Seen
+pub mod Ends
+pub mod Ways
+pub mod Handed
+pub mod Along
+pub mod Linking
+pub mod Meeting
+pub mod Pairs
+pub mod Lowering
+pub mod Run
+pub mod Stages

@@ -1,0 +1,7 @@
+-- The definitions that the contracts cite.
+pub mod Columns
+pub mod Decoding
+pub mod Steady
+pub mod Level
+pub mod Chains
+pub mod Meet

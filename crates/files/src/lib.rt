@@ -1,0 +1,51 @@
+// Files of the working folder, read into lent buffers; what an operating system call brings is not proved, only that it fits.
+ghost use lib.ListN.{length};
+ghost use Rattle.files.specs.Within.{Within};
+
+// What reading a file comes to: how many bytes of the buffer are its own, or that it cannot be read.
+pub enum Got {
+    Bytes(usize),
+    Unreadable,
+}
+
+// One call of the system's read.
+fn one_read(fd: i32, part: &mut [u8]) -> Got
+    ensures { λ r. ⌜ Within r (length (now (part .entry))) ⌝ }
+{
+    let got = libc::read(fd, part);
+    if got < 0 {
+        return Got::Unreadable;
+    }
+    Got::Bytes(io::count(got, part))
+}
+
+// Reads until the buffer is full or the file ends.
+fn fill_from(fd: i32, buf: &mut [u8]) -> Got
+    ensures { λ r. ⌜ Within r (length (now (buf .entry))) ⌝ }
+{
+    let mut at = 0;
+    while at < buf.len() {
+        let Got::Bytes(n) = one_read(fd, &mut buf[at..]) else {
+            return Got::Unreadable;
+        };
+        if n == 0 {
+            return Got::Bytes(at);
+        }
+        at += n;
+    }
+    Got::Bytes(at)
+}
+
+// The front of the file of this name, as much as the buffer holds. A buffer one byte longer than the largest good file
+// tells a longer one by its length. A directory can be opened and not read: it is unreadable.
+pub fn load(path: &[u8], buf: &mut [u8]) -> Got
+    ensures { λ r. ⌜ Within r (length (now (buf .entry))) ⌝ }
+{
+    let fd = os::open_read(path);
+    if fd < 0 {
+        return Got::Unreadable;
+    }
+    let got = fill_from(fd, buf);
+    libc::close(fd);
+    got
+}

@@ -1,0 +1,138 @@
+-- `nodes::accept_front` meets its contract: the parts lent are the first n entries.
+use mathlib.Core.Path.{_∙_, ap}
+use native.Mathlib.Nat.{sub-zero}
+use lib.ListN.{take}
+use Rattle.meaning.specs.Document.{columns}
+use Rattle.meaning.specs.Nodes.{accept}
+use Rattle.nodes.proofs.Fronts.{front-even}
+use borrow.Author.Needs.{needs}
+use Rattle.nodes.proofs.accept_front.Statement.{statement}
+use Rattle.nodes.proofs.accept_front.Tie as tie
+use Rattle.nodes.proofs.accept_front.Reads as reads
+use Rattle.nodes.proofs.accept_front.Lts as lts
+use Rattle.document.proofs.accept_columns.Reads as accept-columns-reads
+
+sub-accept-columns : tie.Need-sub-accept-columns
+sub-accept-columns c = search needs
+
+part-accept-columns-start : tie.Need-part-accept-columns-start
+part-accept-columns-start c = search needs
+
+part-accept-columns-end : tie.Need-part-accept-columns-end
+part-accept-columns-end c = search needs
+
+sub-accept-columns-2 : tie.Need-sub-accept-columns-2
+sub-accept-columns-2 c = search needs
+
+part-accept-columns-start-2 : tie.Need-part-accept-columns-start-2
+part-accept-columns-start-2 c = search needs
+
+part-accept-columns-end-2 : tie.Need-part-accept-columns-end-2
+part-accept-columns-end-2 c = search needs
+
+sub-accept-columns-3 : tie.Need-sub-accept-columns-3
+sub-accept-columns-3 c = search needs
+
+part-accept-columns-start-3 : tie.Need-part-accept-columns-start-3
+part-accept-columns-start-3 c = search needs
+
+part-accept-columns-end-3 : tie.Need-part-accept-columns-end-3
+part-accept-columns-end-3 c = search needs
+
+sub-accept-columns-4 : tie.Need-sub-accept-columns-4
+sub-accept-columns-4 c = search needs
+
+part-accept-columns-start-4 : tie.Need-part-accept-columns-start-4
+part-accept-columns-start-4 c = search needs
+
+part-accept-columns-end-4 : tie.Need-part-accept-columns-end-4
+part-accept-columns-end-4 c = search needs
+
+sub-accept-columns-5 : tie.Need-sub-accept-columns-5
+sub-accept-columns-5 c = search needs
+
+part-accept-columns-start-5 : tie.Need-part-accept-columns-start-5
+part-accept-columns-start-5 c = search needs
+
+part-accept-columns-end-5 : tie.Need-part-accept-columns-end-5
+part-accept-columns-end-5 c = search needs
+
+sub-accept-columns-6 : tie.Need-sub-accept-columns-6
+sub-accept-columns-6 c = search needs
+
+part-accept-columns-start-6 : tie.Need-part-accept-columns-start-6
+part-accept-columns-start-6 c = search needs
+
+part-accept-columns-end-6 : tie.Need-part-accept-columns-end-6
+part-accept-columns-end-6 c = search needs
+
+sub-accept-columns-7 : tie.Need-sub-accept-columns-7
+sub-accept-columns-7 c = search needs
+
+part-accept-columns-start-7 : tie.Need-part-accept-columns-start-7
+part-accept-columns-start-7 c = search needs
+
+part-accept-columns-end-7 : tie.Need-part-accept-columns-end-7
+part-accept-columns-end-7 c = search needs
+
+sub-accept-columns-8 : tie.Need-sub-accept-columns-8
+sub-accept-columns-8 c = search needs
+
+part-accept-columns-start-8 : tie.Need-part-accept-columns-start-8
+part-accept-columns-start-8 c = search needs
+
+part-accept-columns-end-8 : tie.Need-part-accept-columns-end-8
+part-accept-columns-end-8 c = search needs
+
+sub-accept-columns-9 : tie.Need-sub-accept-columns-9
+sub-accept-columns-9 c = search needs
+
+part-accept-columns-start-9 : tie.Need-part-accept-columns-start-9
+part-accept-columns-start-9 c = search needs
+
+part-accept-columns-end-9 : tie.Need-part-accept-columns-end-9
+part-accept-columns-end-9 c = search needs
+
+accept-columns-requires : tie.Need-accept-columns-requires
+accept-columns-requires c κs =
+    let a = c .before .before .before .before .before .before .before .before .before .before .before .before .before .before .before .before .before .args in
+    front-even (a .n) (a .kind .now) (a .vkind .now) (a .name .now) (a .parent .now) (a .begin .now) (a .end .now) (a .value .now) (a .item .now) (a .spare .now) (c .before .before .before .before .before .before .before .before .before .before .before .before .before .before .before .before .before .pre)
+
+returns : tie.Need-returns
+returns c =
+    let a = c .before .before .before .before .before .before .before .before .before .before .before .before .before .before .before .before .before .before .args in
+    c .accept-columns .ensures ∙ ap (λ m. accept (columns (take m (a .kind .now)) (take m (a .vkind .now)) (take m (a .name .now)) (take m (a .parent .now)) (take m (a .begin .now)) (take m (a .end .now)) (take m (a .value .now)) (take m (a .item .now)) (take m (a .spare .now)))) (sub-zero (a .n))
+
+pub accept-front-spec : {M : Type 1} → statement M
+accept-front-spec =
+    tie.close
+    (tie.spec
+    sub-accept-columns
+    part-accept-columns-start
+    part-accept-columns-end
+    sub-accept-columns-2
+    part-accept-columns-start-2
+    part-accept-columns-end-2
+    sub-accept-columns-3
+    part-accept-columns-start-3
+    part-accept-columns-end-3
+    sub-accept-columns-4
+    part-accept-columns-start-4
+    part-accept-columns-end-4
+    sub-accept-columns-5
+    part-accept-columns-start-5
+    part-accept-columns-end-5
+    sub-accept-columns-6
+    part-accept-columns-start-6
+    part-accept-columns-end-6
+    sub-accept-columns-7
+    part-accept-columns-start-7
+    part-accept-columns-end-7
+    sub-accept-columns-8
+    part-accept-columns-start-8
+    part-accept-columns-end-8
+    sub-accept-columns-9
+    part-accept-columns-start-9
+    part-accept-columns-end-9
+    accept-columns-requires
+    returns)

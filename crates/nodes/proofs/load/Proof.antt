@@ -1,0 +1,129 @@
+-- `nodes::load` meets its contract: a refusal leaves every column, and an accepted image fills each with its field.
+use mathlib.Core.Path.{_≡_, refl, sym, _∙_}
+use native.Mathlib.Omega.{arith}
+use lib.ListN.{length}
+use Rattle.meaning.specs.declared.Node.{Node}
+use Rattle.meaning.specs.Nodes.{nodeIn}
+use Rattle.nodes.proofs.Loads.{blocks-good, as-image, no-room, with-room, room-for, field-column}
+use borrow.Author.Needs.{needs}
+use Rattle.nodes.proofs.load.Statement.{statement}
+use Rattle.nodes.proofs.load.Tie as tie
+use Rattle.nodes.proofs.load.Reads as reads
+use Rattle.nodes.proofs.load.Lts as lts
+use Rattle.block.proofs.count_records.Reads as count-records-reads
+use Rattle.nodes.proofs.has_room.Reads as has-room-reads
+use Rattle.nodes.proofs.read_nodes.Reads as read-nodes-reads
+use Rattle.nodes.proofs.unpack.Reads as unpack-reads
+
+read-nodes-requires : tie.Need-read-nodes-requires
+read-nodes-requires c κs = search needs
+
+enum-known-read : tie.Need-enum-known-read
+enum-known-read c = search needs
+
+returns : tie.Need-returns
+returns c =
+    let a = c .before .before .before .before .before .before .before .before .before .before .before .before .args in
+    (as-image (a .image .now) (length (a .kind .now)) (length (a .vkind .now)) (length (a .name .now)) (length (a .parent .now)) (length (a .begin .now)) (length (a .end .now)) (length (a .value .now)) (length (a .item .now)) (c .before .before .before .read-nodes .ensures) (c .before .read .given .1), (refl, (refl, (refl, (refl, (refl, (refl, (refl, refl))))))))
+
+enum-told : tie.Need-enum-told
+enum-told c = search needs
+
+count-records-requires : tie.Need-count-records-requires
+count-records-requires c κs =
+    let a = c .before .before .before .before .before .before .before .before .before .before .before .args in
+    record { fair = search needs; accepted = blocks-good (a .image .now) (sym (c .before .before .read-nodes .ensures) ∙ c .enum-told .given .1) }
+
+has-room-requires : tie.Need-has-room-requires
+has-room-requires c κs = search needs
+
+returns-2 : tie.Need-returns-2
+returns-2 c =
+    let a = c .before .before .before .before .before .before .before .before .before .before .before .before .before .before .args in
+    let n = c .before .before .count-records in
+    (no-room (a .image .now) (length (a .kind .now)) (length (a .vkind .now)) (length (a .name .now)) (length (a .parent .now)) (length (a .begin .now)) (length (a .end .now)) (length (a .value .now)) (length (a .item .now)) (c .before .before .before .before .before .read-nodes .ensures) (c .before .before .before .enum-told .given .1) (n .result) (n .ensures .count) (c .before .has-room .ensures) (c .if1 .taken), (refl, (refl, (refl, (refl, (refl, (refl, (refl, refl))))))))
+
+unpack-requires : tie.Need-unpack-requires
+unpack-requires c κs =
+    let t = c .before .before .before .before .before .before .before .before in
+    let a = t .before .before .before .before .before .before .before .before .before .before .before .before .before .before .args in
+    let n = t .before .before .count-records in
+    room-for (a .image .now) (length (a .kind .now)) (length (a .vkind .now)) (length (a .name .now)) (length (a .parent .now)) (length (a .begin .now)) (length (a .end .now)) (length (a .value .now)) (length (a .item .now)) (t .before .before .before .before .before .read-nodes .ensures) (t .before .before .before .enum-told .given .1) (n .result) (n .ensures .count) (t .before .has-room .ensures) (n .ensures .inside) (t .if1 .left)
+
+same-length : tie.Need-same-length
+same-length c = search needs
+
+same-length-2 : tie.Need-same-length-2
+same-length-2 c = search needs
+
+same-length-3 : tie.Need-same-length-3
+same-length-3 c = search needs
+
+same-length-4 : tie.Need-same-length-4
+same-length-4 c = search needs
+
+same-length-5 : tie.Need-same-length-5
+same-length-5 c = search needs
+
+same-length-6 : tie.Need-same-length-6
+same-length-6 c = search needs
+
+same-length-7 : tie.Need-same-length-7
+same-length-7 c = search needs
+
+same-length-8 : tie.Need-same-length-8
+same-length-8 c = search needs
+
+returns-3 : tie.Need-returns-3
+unfolding nodeIn
+returns-3 c =
+    let t = c .before .before .before .before .before .before .before .before .before .before .before .before .before .before .before .before .before .before .before .before .before .before .before .before in
+    let a = t .before .before .before .before .before .before .before .before .before .before .before .before .before .before .args in
+    let n = t .before .before .count-records in
+    let u = c .before .before .before .before .before .before .before .before .before .before .before .before .before .before .before .unpack .ensures in (
+      with-room (a .image .now) (length (a .kind .now)) (length (a .vkind .now)) (length (a .name .now)) (length (a .parent .now)) (length (a .begin .now)) (length (a .end .now)) (length (a .value .now)) (length (a .item .now)) (t .before .before .before .before .before .read-nodes .ensures) (t .before .before .before .enum-told .given .1) (n .result) (n .ensures .count) (t .before .has-room .ensures) (t .if1 .left),
+      (
+        field-column (a .image .now) (n .result) (n .ensures .count) (λ (x : Node). x .kind) (a .kind .now) _ (u .0),
+        (
+          field-column (a .image .now) (n .result) (n .ensures .count) (λ (x : Node). x .vkind) (a .vkind .now) _ (u .1 .0),
+          (
+            field-column (a .image .now) (n .result) (n .ensures .count) (λ (x : Node). x .name) (a .name .now) _ (u .1 .1 .0),
+            (
+              field-column (a .image .now) (n .result) (n .ensures .count) (λ (x : Node). x .parent) (a .parent .now) _ (u .1 .1 .1 .0),
+              (
+                field-column (a .image .now) (n .result) (n .ensures .count) (λ (x : Node). x .begin) (a .begin .now) _ (u .1 .1 .1 .1 .0),
+                (
+                  field-column (a .image .now) (n .result) (n .ensures .count) (λ (x : Node). x .end) (a .end .now) _ (u .1 .1 .1 .1 .1 .0),
+                  (
+                    field-column (a .image .now) (n .result) (n .ensures .count) (λ (x : Node). x .value) (a .value .now) _ (u .1 .1 .1 .1 .1 .1 .0),
+                    field-column (a .image .now) (n .result) (n .ensures .count) (λ (x : Node). x .item) (a .item .now) _ (u .1 .1 .1 .1 .1 .1 .1),
+                  ),
+                ),
+              ),
+            ),
+          ),
+        ),
+      ),
+    )
+
+pub load-spec : {M : Type 1} → statement M
+load-spec =
+    tie.close
+    (tie.spec
+    read-nodes-requires
+    enum-known-read
+    returns
+    enum-told
+    count-records-requires
+    has-room-requires
+    returns-2
+    unpack-requires
+    same-length
+    same-length-2
+    same-length-3
+    same-length-4
+    same-length-5
+    same-length-6
+    same-length-7
+    same-length-8
+    returns-3)

@@ -1,0 +1,199 @@
+// A node image unpacked into columns: refusals 1 to 10, and the decoded document where it is accepted.
+use meaning::Reading;
+ghost use mathlib.Core.Path.{_≡_};
+ghost use lib.ListN.{length, take};
+ghost use Rattle.meaning.specs.Document.{columns};
+ghost use Rattle.meaning.specs.declared.Node.{Node};
+ghost use Rattle.meaning.specs.Nodes.{docOf, accept, readNodes};
+ghost use Rattle.meaning.specs.Bytes.{byte, two, four, signed};
+ghost use Rattle.meaning.specs.Block.{nodeForm, recordOf};
+ghost use Rattle.nodes.specs.Filled.{filled, Roomy, Front};
+ghost use Rattle.nodes.specs.Loading.{roomy, Blocked, loading, unpacked};
+use document::LIMIT;
+
+pub mod fill; // fill.rt: one column, from the records of an image
+
+// What comes of unpacking: how many records there are, or refused with a number and a place.
+pub enum Loaded {
+    Nodes(usize),
+    Refused(usize, usize),
+}
+
+// The fields of n records, each in its column. One look at each record for each column.
+fn unpack(
+    image: &[u8],
+    n: usize,
+    kind: &mut [u8],
+    vkind: &mut [u8],
+    name: &mut [u16],
+    parent: &mut [u16],
+    begin: &mut [u16],
+    end: &mut [u16],
+    value: &mut [i32],
+    item: &mut [u32],
+)
+    requires { ⌜ Roomy (now image) n (length (now kind)) (length (now vkind)) (length (now name)) (length (now parent)) (length (now begin)) (length (now end)) (length (now value)) (length (now item)) ⌝ }
+    ensures kind { λ r. ⌜ now (kind .exit) ≡ filled (λ i. byte (recordOf nodeForm (now (image .entry)) i) 0) n (now (kind .entry)) ⌝ }
+    ensures vkind { λ r. ⌜ now (vkind .exit) ≡ filled (λ i. byte (recordOf nodeForm (now (image .entry)) i) 1) n (now (vkind .entry)) ⌝ }
+    ensures name { λ r. ⌜ now (name .exit) ≡ filled (λ i. two (recordOf nodeForm (now (image .entry)) i) 2) n (now (name .entry)) ⌝ }
+    ensures parent { λ r. ⌜ now (parent .exit) ≡ filled (λ i. two (recordOf nodeForm (now (image .entry)) i) 4) n (now (parent .entry)) ⌝ }
+    ensures begin { λ r. ⌜ now (begin .exit) ≡ filled (λ i. two (recordOf nodeForm (now (image .entry)) i) 6) n (now (begin .entry)) ⌝ }
+    ensures end { λ r. ⌜ now (end .exit) ≡ filled (λ i. two (recordOf nodeForm (now (image .entry)) i) 8) n (now (end .entry)) ⌝ }
+    ensures value { λ r. ⌜ now (value .exit) ≡ filled (λ i. signed (four (recordOf nodeForm (now (image .entry)) i) 10)) n (now (value .entry)) ⌝ }
+    ensures item { λ r. ⌜ now (item .exit) ≡ filled (λ i. four (recordOf nodeForm (now (image .entry)) i) 14) n (now (item .entry)) ⌝ }
+{
+    fill::fill_bytes(image, n, 0, kind);
+    fill::fill_bytes(image, n, 1, vkind);
+    fill::fill_pairs(image, n, 2, name);
+    fill::fill_pairs(image, n, 4, parent);
+    fill::fill_pairs(image, n, 6, begin);
+    fill::fill_pairs(image, n, 8, end);
+    fill::fill_signed(image, n, 10, value);
+    fill::fill_quads(image, n, 14, item);
+}
+
+// Whether each of the eight columns has room for n entries.
+fn has_room(
+    n: usize,
+    a: usize,
+    b: usize,
+    c: usize,
+    d: usize,
+    e: usize,
+    f: usize,
+    g: usize,
+    h: usize,
+) -> bool
+    ensures { λ r. ⌜ r ≡ roomy n a b c d e f g h ⌝ }
+{
+    (n <= a) & (n <= b) & (n <= c) & (n <= d) & (n <= e) & (n <= f) & (n <= g) & (n <= h)
+}
+
+// The document in the first n entries of nine columns, tested.
+fn accept_front(
+    n: usize,
+    kind: &[u8],
+    vkind: &[u8],
+    name: &[u16],
+    parent: &[u16],
+    begin: &[u16],
+    end: &[u16],
+    value: &[i32],
+    item: &[u32],
+    spare: &[u16],
+) -> Reading
+    requires { ⌜ Front n (length (now kind)) (length (now vkind)) (length (now name)) (length (now parent)) (length (now begin)) (length (now end)) (length (now value)) (length (now item)) (length (now spare)) ⌝ }
+    ensures { λ r. ⌜ r ≡ accept (columns (take n (now (kind .entry))) (take n (now (vkind .entry))) (take n (now (name .entry))) (take n (now (parent .entry))) (take n (now (begin .entry))) (take n (now (end .entry))) (take n (now (value .entry))) (take n (now (item .entry))) (take n (now (spare .entry)))) ⌝ }
+{
+    document::accept_columns(
+        &kind[0..n],
+        &vkind[0..n],
+        &name[0..n],
+        &parent[0..n],
+        &begin[0..n],
+        &end[0..n],
+        &value[0..n],
+        &item[0..n],
+        &spare[0..n],
+    )
+}
+
+// The document of an image of good blocks, tested in columns of its own, so that a refusal touches no lent one.
+fn accept_image(image: &[u8], n: usize) -> Reading
+    requires { ⌜ Blocked (now image) n ⌝ }
+    ensures { λ r. ⌜ r ≡ accept (docOf (now (image .entry))) ⌝ }
+{
+    let mut kind = [0u8; LIMIT];
+    let mut vkind = [0u8; LIMIT];
+    let mut name = [0u16; LIMIT];
+    let mut parent = [0u16; LIMIT];
+    let mut begin = [0u16; LIMIT];
+    let mut end = [0u16; LIMIT];
+    let mut value = [0i32; LIMIT];
+    let mut item = [0u32; LIMIT];
+    let mut spare = [0u16; LIMIT];
+    unpack(
+        image,
+        n,
+        &mut kind,
+        &mut vkind,
+        &mut name,
+        &mut parent,
+        &mut begin,
+        &mut end,
+        &mut value,
+        &mut item,
+    );
+    fill::fill_pairs(image, n, 18, &mut spare);
+    accept_front(
+        n,
+        &kind,
+        &vkind,
+        &name,
+        &parent,
+        &begin,
+        &end,
+        &value,
+        &item,
+        &spare,
+    )
+}
+
+// What comes of a whole image, 1 to 10, for every byte string. One pass over the blocks, then the document's tests.
+pub fn read_nodes(image: &[u8]) -> Reading
+    ensures { λ r. ⌜ r ≡ readNodes (now (image .entry)) ⌝ }
+{
+    let blocks = block::node_blocks(image);
+    let Reading::Accepted = blocks else {
+        return blocks;
+    };
+    accept_image(image, block::count_records(image, block::NODES))
+}
+
+// An image unpacked into eight lent columns, for every byte string: where it is accepted and there is room, each column holds
+// its field of every record and past them what it held; where it is refused, or a column is too short (12), all stay as they were.
+pub fn load(
+    image: &[u8],
+    kind: &mut [u8],
+    vkind: &mut [u8],
+    name: &mut [u16],
+    parent: &mut [u16],
+    begin: &mut [u16],
+    end: &mut [u16],
+    value: &mut [i32],
+    item: &mut [u32],
+) -> Loaded
+    ensures answer { λ r. ⌜ r ≡ loading (now (image .entry)) (length (now (kind .entry))) (length (now (vkind .entry))) (length (now (name .entry))) (length (now (parent .entry))) (length (now (begin .entry))) (length (now (end .entry))) (length (now (value .entry))) (length (now (item .entry))) ⌝ }
+    ensures kind { λ r. ⌜ now (kind .exit) ≡ unpacked r (λ (n : Node). n .kind) (now (image .entry)) (now (kind .entry)) ⌝ }
+    ensures vkind { λ r. ⌜ now (vkind .exit) ≡ unpacked r (λ (n : Node). n .vkind) (now (image .entry)) (now (vkind .entry)) ⌝ }
+    ensures name { λ r. ⌜ now (name .exit) ≡ unpacked r (λ (n : Node). n .name) (now (image .entry)) (now (name .entry)) ⌝ }
+    ensures parent { λ r. ⌜ now (parent .exit) ≡ unpacked r (λ (n : Node). n .parent) (now (image .entry)) (now (parent .entry)) ⌝ }
+    ensures begin { λ r. ⌜ now (begin .exit) ≡ unpacked r (λ (n : Node). n .begin) (now (image .entry)) (now (begin .entry)) ⌝ }
+    ensures end { λ r. ⌜ now (end .exit) ≡ unpacked r (λ (n : Node). n .end) (now (image .entry)) (now (end .entry)) ⌝ }
+    ensures value { λ r. ⌜ now (value .exit) ≡ unpacked r (λ (n : Node). n .value) (now (image .entry)) (now (value .entry)) ⌝ }
+    ensures item { λ r. ⌜ now (item .exit) ≡ unpacked r (λ (n : Node). n .item) (now (image .entry)) (now (item .entry)) ⌝ }
+{
+    let read = read_nodes(image);
+    match read {
+        Reading::Refused(number, place) => {
+            return Loaded::Refused(number, place);
+        }
+        Reading::Accepted => {}
+    }
+    let n = block::count_records(image, block::NODES);
+    if !has_room(
+        n,
+        kind.len(),
+        vkind.len(),
+        name.len(),
+        parent.len(),
+        begin.len(),
+        end.len(),
+        value.len(),
+        item.len(),
+    ) {
+        return Loaded::Refused(12, 0);
+    }
+    unpack(image, n, kind, vkind, name, parent, begin, end, value, item);
+    Loaded::Nodes(n)
+}

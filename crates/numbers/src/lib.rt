@@ -1,0 +1,121 @@
+// Numbers in bytes, little-endian, and signed numbers: read, compared and subtracted. Every proof on signed values stands in this crate.
+ghost use mathlib.Core.Path.{_≡_};
+ghost use mathlib.Core.Bool.{_&&_};
+ghost use Prim.Native.Nat.{_+_, _*_, _≤_, _<_};
+ghost use lib.IntN.{pos, _-ℤ_};
+ghost use lib.Signed.{leZ, mag};
+ghost use lib.ListN.{length};
+ghost use Rattle.meaning.specs.Bytes.{two, four, signed, eqZ};
+
+// The number whose bytes are low, high.
+fn pair(low: u8, high: u8) -> u16
+    ensures { λ r. ⌜ r ≡ low + 256 * high ⌝ }
+{
+    (low as u16) + 256 * (high as u16)
+}
+
+// The number whose bytes are a, b, c, d.
+fn quad(a: u8, b: u8, c: u8, d: u8) -> u32
+    ensures { λ r. ⌜ r ≡ a + 256 * b + 65536 * c + 16777216 * d ⌝ }
+{
+    (a as u32) + 256 * (b as u32) + 65536 * (c as u32) + 16777216 * (d as u32)
+}
+
+// The number in two bytes.
+pub fn two_at(s: &[u8], at: usize) -> u16
+    requires { ⌜ at + 2 ≤ length (now s) ⌝ }
+    ensures { λ r. ⌜ r ≡ two (now (s .entry)) at ⌝ }
+{
+    pair(s[at], s[at + 1])
+}
+
+// The number in four bytes.
+pub fn four_at(s: &[u8], at: usize) -> u32
+    requires { ⌜ at + 4 ≤ length (now s) ⌝ }
+    ensures { λ r. ⌜ r ≡ four (now (s .entry)) at ⌝ }
+{
+    quad(s[at], s[at + 1], s[at + 2], s[at + 3])
+}
+
+// The signed number of which x has the bits.
+pub fn signed_of(x: u32) -> i32
+    ensures { λ r. ⌜ r ≡ signed x ⌝ }
+{
+    if x < 2147483648 {
+        return x as i32;
+    }
+    -1 - ((4294967295 - x) as i32)
+}
+
+// The signed number in four bytes.
+pub fn signed_at(s: &[u8], at: usize) -> i32
+    requires { ⌜ at + 4 ≤ length (now s) ⌝ }
+    ensures { λ r. ⌜ r ≡ signed (four (now (s .entry)) at) ⌝ }
+{
+    signed_of(four_at(s, at))
+}
+
+pub fn same(a: i32, b: i32) -> bool
+    ensures { λ r. ⌜ r ≡ eqZ a b ⌝ }
+{
+    a == b
+}
+
+pub fn is_zero(z: i32) -> bool
+    ensures { λ r. ⌜ r ≡ eqZ z (pos 0) ⌝ }
+{
+    z == 0
+}
+
+pub fn at_most(a: i32, b: i32) -> bool
+    ensures { λ r. ⌜ r ≡ leZ a b ⌝ }
+{
+    a <= b
+}
+
+pub fn at_least_zero(z: i32) -> bool
+    ensures { λ r. ⌜ r ≡ leZ (pos 0) z ⌝ }
+{
+    0 <= z
+}
+
+// What holds every difference of two i32.
+pub type Wide = i64;
+
+// q minus p, of two numbers that an i32 holds.
+fn minus(q: Wide, p: Wide) -> Wide
+    requires { ⌜ (mag q < 2147483648) × (mag p < 2147483648) ⌝ }
+    ensures { λ r. ⌜ r ≡ q -ℤ p ⌝ }
+{
+    q - p
+}
+
+// q minus p, exactly: each is widened first.
+pub fn difference(q: i32, p: i32) -> Wide
+    ensures { λ r. ⌜ r ≡ q -ℤ p ⌝ }
+{
+    minus(q as Wide, p as Wide)
+}
+
+// Whether z lies from low to high.
+pub fn in_range(z: i32, low: i32, high: i32) -> bool
+    ensures { λ r. ⌜ r ≡ (leZ low z && leZ z high) ⌝ }
+{
+    (low <= z) & (z <= high)
+}
+
+// Whether the step from p to q lies from low to high.
+pub fn step_in_range(q: i32, p: i32, low: i32, high: i32) -> bool
+    ensures { λ r. ⌜ r ≡ (leZ low (q -ℤ p) && leZ (q -ℤ p) high) ⌝ }
+{
+    let step = difference(q, p);
+    (low as Wide <= step) & (step <= high as Wide)
+}
+
+// Whether the count n lies from low to high.
+pub fn count_in_range(n: usize, low: i32, high: i32) -> bool
+    requires { ⌜ n ≤ 4000 ⌝ }
+    ensures { λ r. ⌜ r ≡ (leZ low (pos n) && leZ (pos n) high) ⌝ }
+{
+    in_range(n as i32, low, high)
+}

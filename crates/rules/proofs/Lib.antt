@@ -1,0 +1,5 @@
+pub mod Walked
+pub mod Rows
+pub mod Decoding
+pub mod Tables
+pub mod Answers

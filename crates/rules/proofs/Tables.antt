@@ -1,0 +1,55 @@
+-- The table of an image whose blocks were read: how many rules it has, which of its bytes each is read from, and that those lie in a block.
+use mathlib.Core.Path.{_≡_, refl, sym, ap, _∙_}
+use mathlib.Core.List.{List}
+use Prim.Native.Nat.{ℕ, _<_}
+use native.Mathlib.Nat.{zero-add}
+use native.Mathlib.Omega.{arith}
+use lib.ListN.{length}
+use Rattle.meaning.specs.declared.Rule.{Rule}
+use Rattle.meaning.specs.declared.Reading.the-variants.{Accepted}
+use Rattle.meaning.specs.Order.{inOrder}
+use Rattle.meaning.specs.Block.{ruleForm, imageTests, records, recordOf}
+use Rattle.meaning.specs.Rules.{ruleIn, noRule, ruleAt, rulesOf, readRules}
+use Rattle.meaning.proofs.Orders.{then-accepted}
+use Rattle.meaning.proofs.Walks.{length-listed, getD-listed}
+use Rattle.block.specs.Fair.{Fair, Read, Counted, Inside}
+use Rattle.block.proofs.Places.{count-all}
+use Rattle.rules.specs.Table.{Table, Row}
+
+-- the form of a rule image is one that the reader of blocks takes
+fair : Fair ruleForm
+fair = record { some = omega arith; room = omega arith; each-small = omega arith; most-small = omega arith; base-small = omega arith }
+
+module _ (image : List ℕ) where
+  -- rule k, as its record says
+  abbrev rule : ℕ → Rule
+  rule k = ruleIn (recordOf ruleForm image k)
+
+  -- a rule for each record
+  length-rules : length (rulesOf image) ≡ records ruleForm image
+  unfolding rulesOf
+  length-rules = length-listed rule 0 (records ruleForm image)
+
+  pub rule-here : (k : ℕ) → k < length (rulesOf image) → ruleAt (rulesOf image) k ≡ ruleIn (recordOf ruleForm image k)
+  unfolding rulesOf
+  rule-here k h = getD-listed rule 0 (records ruleForm image) k noRule (omega (arith, length-rules)) ∙ ap rule (zero-add k)
+
+  pub accepted-blocks : readRules image ≡ Accepted → inOrder (imageTests ruleForm image) ≡ Accepted
+  unfolding readRules
+  accepted-blocks e = then-accepted (inOrder (imageTests ruleForm image)) _ e .0
+
+module _ {image : List ℕ} where
+  -- what the count of records says of the table
+  pub counted : {n : ℕ} → inOrder (imageTests ruleForm image) ≡ Accepted → Counted ruleForm image n → Table image n
+  counted e c = record { blocks = e; count = c .count ∙ sym (length-rules image); few = omega (arith, c .few) }
+
+  -- a number below the count is a rule's
+  pub row : {n k : ℕ} → Table image n → k < n → Row image k
+  row t h = record { blocks = t .blocks; below = rw (t .count) at h }
+
+  -- a rule's record lies in a block
+  pub inside : {k : ℕ} → Row image k → Inside ruleForm image k
+  inside {k} r =
+      let read : Read ruleForm image = record { fair = fair; accepted = r .blocks } in
+      let all = count-all read refl refl in
+      record { fair = fair; inside = omega (arith, all .count, all .inside, length-rules image, r .below) }

@@ -1,0 +1,65 @@
+-- `rules::read_rules` meets its contract: the first of the three passes that refuses, and none.
+use mathlib.Core.Path.{sym, _∙_}
+use borrow.Author.Needs.{needs}
+use Rattle.rules.proofs.Answers.{bad-blocks, bad-record, all-read}
+use Rattle.rules.proofs.read_rules.Statement.{statement}
+use Rattle.rules.proofs.read_rules.Tie as tie
+
+rule-blocks-requires : tie.Need-rule-blocks-requires
+rule-blocks-requires c κs = search needs
+
+enum-told : tie.Need-enum-told
+enum-told c = search needs
+
+enum-told-2 : tie.Need-enum-told-2
+enum-told-2 c = search needs
+
+returns : tie.Need-returns
+returns c = bad-blocks _ (c .before .before .rule-blocks .ensures) (c .enum-told2 .given .1)
+
+table-size-requires : tie.Need-table-size-requires
+table-size-requires c κs = sym (c .before .before .rule-blocks .ensures) ∙ c .enum-told .given .1
+
+read-records-requires : tie.Need-read-records-requires
+read-records-requires c κs = search needs
+
+enum-told-3 : tie.Need-enum-told-3
+enum-told-3 c = search needs
+
+enum-told-4 : tie.Need-enum-told-4
+enum-told-4 c = search needs
+
+returns-2 : tie.Need-returns-2
+returns-2 c =
+    let r = c .before .before in
+    let n = r .before in
+    let b = n .before in
+    bad-record _ (b .before .before .rule-blocks .ensures) (b .enum-told .given .1) (n .table-size .ensures .count) (r .read-records .ensures) (c .enum-told4 .given .1)
+
+read-references-requires : tie.Need-read-references-requires
+read-references-requires c κs = search needs
+
+returns-3 : tie.Need-returns-3
+returns-3 c =
+    let o = c .before in
+    let r = o .before .before in
+    let n = r .before in
+    let b = n .before in
+    all-read _ (b .before .before .rule-blocks .ensures) (b .enum-told .given .1) (n .table-size .ensures .count) (r .read-records .ensures) (o .enum-told3 .given .1)
+    (c .read-references .ensures)
+
+pub read-rules-spec : {M : Type 1} → statement M
+read-rules-spec =
+    tie.close
+    (tie.spec
+    rule-blocks-requires
+    enum-told
+    enum-told-2
+    returns
+    table-size-requires
+    read-records-requires
+    enum-told-3
+    enum-told-4
+    returns-2
+    read-references-requires
+    returns-3)
