@@ -1,4 +1,4 @@
-// A rule record's 50 bytes: the rule that they hold, and whether they decode. Each is read once and in place.
+// A rule record's 50 bytes: the rule that they hold, and whether they decode. Each costs a fixed number of reads, in place.
 ghost use mathlib.Core.Path.{_≡_};
 ghost use Prim.Native.Nat.{_+_, _*_};
 ghost use lib.ListN.{length};

@@ -17,10 +17,10 @@ cast-to c = search needs
 returns-2 : tie.Need-returns-2
 returns-2 c =
     let r = c .before .before .before .before in
-    missing _ _ (r .rule-at .ensures) (c .before .before .if1 .left) (r .before .before .pre .0 .count) (c .if2 .taken)
+    missing _ _ (r .rule-at .ensures) (c .before .before .if1 .left) (r .before .before .pre .0 .count) (search needs)
 
 rule-at-requires-2 : tie.Need-rule-at-requires-2
-rule-at-requires-2 c κs = row (c .before .before .before .before .before .before .pre .0) (c .if2 .left)
+rule-at-requires-2 c κs = row (c .before .before .before .before .before .before .pre .0) (search needs)
 
 returns-3 : tie.Need-returns-3
 returns-3 c =
