@@ -2,3 +2,4 @@ pub mod Fills
 pub mod Fronts
 pub mod Unpacked
 pub mod Loads
+pub mod Held

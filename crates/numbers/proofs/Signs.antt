@@ -1,16 +1,16 @@
 -- Signed numbers as the machine holds them. A local holds bits, `ofZ` of the number, and each use reads them back, `toZ`; what was read back is the number itself.
 use mathlib.Core.Path.{_≡_, refl, sym, ap, _∙_}
-use mathlib.Core.Bool.{Bool, true, false, cond}
+use mathlib.Core.Bool.{Bool, true, false, cond, false≢true}
 use Prim.Native.Nat.{ℕ, zero, suc, _+_, _-_, _^_, _≤_, _<_}
 use native.Mathlib.Omega.{arith}
 use native.Mathlib.Nat.{zero-add}
-use borrow.Author.Tests.{eqb-true, eq-eqb}
-use lib.Dec.{eqb, ltb}
-use lib.IntN.{ℤ, pos, negsuc, _-ℤ_}
-use lib.Signed.{mag}
+use borrow.Author.Tests.{eqb-true, eq-eqb, le-leb, le-ltb}
+use lib.Dec.{T, eqb, ltb}
+use lib.IntN.{ℤ, pos, negsuc, natAbs, _-ℤ_}
+use lib.Signed.{mag, leZ, nonNeg}
 use mir.Syntax.{Width, w32, w64}
-use mir.Val.{SFits, ofZ, toZ, hbits}
-use mir.Facts.{toZ-ofZ, toZ-pos, sfits-widen}
+use mir.Val.{Fits, SFits, ofZ, toZ, hbits}
+use mir.Facts.{toZ-ofZ, toZ-pos, sfits-widen, fits-natAbs}
 use Rattle.meaning.specs.Bytes.{eqZ}
 use Rattle.meaning.proofs.Basics.{tests-same}
 use Rattle.meaning.proofs.Says.{eqZ-passes}
@@ -60,3 +60,22 @@ below-zero n h = rw (toZ-pos w32 h) (minus-one n)
 
 pub below-zero-fits : (n : ℕ) → n < 2147483648 → SFits w32 (negsuc 0 -ℤ toZ w32 n)
 below-zero-fits n h = rw (below-zero n h) (record { sfits = h })
+
+-- a number from 0 up is its magnitude, and one below 0 is −1 minus it; x is the number, read back
+pub upward : {x z : ℤ} → x ≡ z → leZ (pos 0) x ≡ true → x ≡ pos (mag z)
+upward {z = pos n} e t = e
+upward {z = negsuc n} e t = absurd (false≢true (rw e at t))
+
+minus-below : (n : ℕ) → negsuc 0 -ℤ negsuc n ≡ pos n
+minus-below n = let e : suc n - 1 ≡ n = omega arith in rw (le-ltb (suc n) 1 (omega arith), e)
+
+pub downward : {x z : ℤ} → x ≡ z → leZ (pos 0) x ≡ false → negsuc 0 -ℤ x ≡ pos (mag z)
+downward {z = pos n} e t = absurd (false≢true (sym (rw (e, le-leb 0 n (omega arith)) at t)))
+downward {z = negsuc n} e t = rw e (minus-below n)
+
+-- what an i32 holds of 0 and above is an i32, and a u32
+pub held-up : {x : ℤ} {n : ℕ} → x ≡ pos n → n < 2147483648 → SFits w32 x
+held-up e h = rw e (record { sfits = h })
+
+pub cast-up : {x : ℤ} {n : ℕ} → x ≡ pos n → n < 2147483648 → T (nonNeg x) × Fits w32 (natAbs x)
+cast-up e h = rw e (tt, fits-natAbs {z = pos _} tt (held-up refl h))

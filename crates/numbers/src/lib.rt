@@ -79,6 +79,16 @@ pub fn at_least_zero(z: i32) -> bool
     0 <= z
 }
 
+// The magnitude of z: z itself from 0 up, and n for -1 - n, so that every i32 has one.
+pub fn magnitude(z: i32) -> u32
+    ensures { λ r. ⌜ r ≡ mag z ⌝ }
+{
+    if 0 <= z {
+        return z as u32;
+    }
+    (-1 - z) as u32
+}
+
 // What holds every difference of two i32.
 pub type Wide = i64;
 

@@ -1,15 +1,19 @@
 -- The table of an image whose blocks were read: how many rules it has, which of its bytes each is read from, and that those lie in a block.
 use mathlib.Core.Path.{_≡_, refl, sym, ap, _∙_}
+use mathlib.Core.Bool.{true}
 use mathlib.Core.List.{List}
 use Prim.Native.Nat.{ℕ, _<_}
 use native.Mathlib.Nat.{zero-add}
 use native.Mathlib.Omega.{arith}
+use borrow.Author.Tests.{eqb-true}
 use lib.ListN.{length}
 use Rattle.meaning.specs.declared.Rule.{Rule}
 use Rattle.meaning.specs.declared.Reading.the-variants.{Accepted}
 use Rattle.meaning.specs.Order.{inOrder}
 use Rattle.meaning.specs.Block.{ruleForm, imageTests, records, recordOf}
-use Rattle.meaning.specs.Rules.{ruleIn, noRule, ruleAt, rulesOf, readRules}
+use Rattle.meaning.specs.Rules.{isReference, ruleIn, noRule, ruleFields, ruleAt, rulesOf, readRules}
+use Rattle.meaning.proofs.RulesSound.{rules-sound}
+use Rattle.meaning.proofs.Tables.{rule-row}
 use Rattle.meaning.proofs.Orders.{then-accepted}
 use Rattle.meaning.proofs.Walks.{length-listed, getD-listed}
 use Rattle.block.specs.Fair.{Fair, Read, Counted, Inside}
@@ -53,3 +57,20 @@ module _ {image : List ℕ} where
       let read : Read ruleForm image = record { fair = fair; accepted = r .blocks } in
       let all = count-all read refl refl in
       record { fair = fair; inside = omega (arith, all .count, all .inside, length-rules image, r .below) }
+
+-- a table that was accepted
+module _ (image : List ℕ) (a : readRules image ≡ Accepted) (k : ℕ) (h : k < length (rulesOf image)) where
+  pub accepted-row : Row image k
+  accepted-row = record { blocks = accepted-blocks image a; below = h }
+
+  -- each rule fits its table
+  pub accepted-fields : ruleFields (ruleAt (rulesOf image) k) ≡ true
+  accepted-fields = rule-row (ruleAt (rulesOf image) k) .1 (rules-sound image a .table k h)
+
+  -- and a reference refers to a rule
+  module _ {r : Rule} (e : r ≡ ruleAt (rulesOf image) k) where
+    pub referred-row : r .kind ≡ 3 → Row image (r .referred)
+    referred-row t = rw e (record { blocks = accepted-blocks image a; below = rules-sound image a .referred k h (ap (λ (x : Rule). x .kind) (sym e) ∙ t) .0 })
+
+    pub no-reference : (r .kind ≡ 3 → ⊥) → isReference (ruleAt (rulesOf image) k) ≡ true → ⊥
+    no-reference n t = n (ap (λ (x : Rule). x .kind) e ∙ eqb-true _ 3 t)

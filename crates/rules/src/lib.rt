@@ -4,11 +4,14 @@ mod decode;
 mod fields;
 
 ghost use mathlib.Core.Path.{_≡_};
+ghost use mathlib.Core.Bool.{true};
+ghost use lib.ListN.{length};
 ghost use Prim.Native.Nat.{_<_};
 ghost use Rattle.meaning.specs.declared.Reading.the-variants.{Accepted};
 ghost use Rattle.meaning.specs.Order.{need, earliest, inOrder};
 ghost use Rattle.meaning.specs.Block.{ruleForm, imageTests};
-ghost use Rattle.meaning.specs.Rules.{ruleAt, rulesOf, readRule, refersWell, readRules};
+ghost use Rattle.meaning.specs.Rules.{isReference, ruleAt, rulesOf, readRule, refersWell, readRules};
+ghost use Rattle.meaning.specs.Answer.{referredBy};
 ghost use Rattle.block.specs.Fair.{Part};
 ghost use Rattle.rules.specs.Table.{Table, Row};
 use decode::Decoded;
@@ -112,4 +115,16 @@ pub fn count_rules(image: &[u8]) -> usize
     ensures { λ r. ⌜ Table (now (image .entry)) r ⌝ }
 {
     table_size(image)
+}
+
+// The rule to which rule k refers if it is a reference; rule k itself if it is not.
+pub fn referred_rule(image: &[u8], k: usize) -> Rule
+    requires { ⌜ (readRules (now image) ≡ Accepted) × (k < length (rulesOf (now image))) ⌝ }
+    ensures { λ r. ⌜ (isReference (ruleAt (rulesOf (now (image .entry))) k) ≡ true → r ≡ referredBy (rulesOf (now (image .entry))) k) ⌝ }
+{
+    let rule = rule_at(image, k);
+    if rule.kind != 3 {
+        return rule;
+    }
+    rule_at(image, rule.referred as usize)
 }

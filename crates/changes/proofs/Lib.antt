@@ -1,0 +1,4 @@
+-- The laws behind the marks on days.
+pub mod Turning
+pub mod Columns
+pub mod Spans

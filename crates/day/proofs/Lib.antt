@@ -1,0 +1,7 @@
+-- The laws behind the offender of one day.
+pub mod Tallying
+pub mod Meeting
+pub mod Skipping
+pub mod Walking
+pub mod Single
+pub mod Offence

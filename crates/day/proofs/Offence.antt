@@ -1,0 +1,234 @@
+-- A row offends exactly where its version offends the rule: once over the kinds.
+use mathlib.Core.Path.{_≡_, refl, sym, _∙_, ap, ap₂, fun-ext}
+use mathlib.Core.Bool.{Bool, true, false, _&&_, _||_, not, and-comm, and-assoc, and-true, and-false, or-false}
+use mathlib.Core.List.{List}
+use Prim.Native.Nat.{ℕ, zero, suc, _<_}
+use native.Mathlib.Omega.{arith}
+use lib.IntN.{pos}
+use lib.Dec.{eqb, ltb}
+use lib.ListN.{length, getD}
+use borrow.Author.Tests.{eqb-true, eq-eqb, ne-eqb}
+use Rattle.meaning.specs.declared.Rule.{Rule}
+use Rattle.meaning.specs.Walk.{any, count, first}
+use Rattle.meaning.specs.Document.{Doc, isVersion}
+use Rattle.meaning.specs.Rules.{isReference, isSequenced}
+use Rattle.meaning.specs.Select.{selected, fieldOf, valued, isNumber, within, present, gives, has}
+use Rattle.meaning.specs.Day.{alive, values, sharesOnly, taken, key, unique, reference, cardinality, datatype, breaks, offends}
+use Rattle.meaning.proofs.Basics.{and-l, and-same}
+use Rattle.meaning.proofs.Walks.{any-none, any-same, count-same, first-same}
+use Rattle.meaning.proofs.Selects.{selected-version, field-version}
+use Rattle.document.specs.Lent.{Periods}
+use Rattle.values.specs.Represents.{Represents}
+use Rattle.prepare.specs.Rows.{wantsBy, wants, inRow}
+use Rattle.day.specs.Ready.{counted, distinct, referring, TermsBy, Terms, Ready, Referred}
+use Rattle.day.specs.Row.{lasts, stamped, number, only, outside, wrong, keeps, rowBreaks}
+use Rattle.day.specs.Table.{holder, seenBelow, rowOffends}
+use Rattle.day.proofs.Single.{One, one, any-count, eqb-sym, outside-one, outside-most, outside-within}
+
+module _ (doc : Doc) (begins ends reps : List ℕ) (periods : Periods doc begins ends) (represents : Represents doc reps) (d : ℕ) where
+  abbrev p : ℕ → Bool
+  p = lasts begins ends d
+
+  abbrev rep : ℕ → ℕ
+  rep f = getD reps f 0
+
+  lasts-alive : (v : ℕ) → isVersion doc v ≡ true → p v ≡ alive doc d v
+  unfolding alive
+  lasts-alive v e = rw (e, periods .begin .at v, periods .end .at v)
+
+  module _ (r : Rule) where
+    -- the present ones of a row are the present field versions that the rule wants
+    row-is : (v : ℕ) → selected doc r v ≡ true → (f : ℕ) → inRow doc r v f && p f ≡ (fieldOf doc r v f && alive doc d f && wants doc r f)
+    unfolding inRow
+    row-is v s f = rw s (swap (fieldOf doc r v f) (wants doc r f) (p f) (alive doc d f) (λ y. lasts-alive f (field-version doc r v f s y)))
+      where
+        swap : (a b x y : Bool) → (a ≡ true → x ≡ y) → a && b && x ≡ (a && y && b)
+        swap true b x y h = ap (λ z. b && z) (h refl) ∙ and-comm b y
+        swap false b x y h = refl
+
+    gives-version : (v : ℕ) → selected doc r v ≡ true → (f : ℕ) → gives doc (alive doc d) r v f ≡ true → isVersion doc f ≡ true
+    unfolding gives
+    gives-version v s f e = field-version doc r v f s (and-l _ (alive doc d f) (and-l _ (valued doc f) e))
+
+    module _ (w : (f : ℕ) → wants doc r f ≡ valued doc f) (v : ℕ) (s : selected doc r v ≡ true) where
+      row-gives : (λ f. inRow doc r v f && p f) ≡ gives doc (alive doc d) r v
+      unfolding gives
+      row-gives = fun-ext (λ f. row-is v s f ∙ ap (λ b. fieldOf doc r v f && alive doc d f && b) (w f))
+
+      number-is : number p (doc .size) (inRow doc r v) ≡ values doc (alive doc d) r v
+      unfolding number values
+      number-is = ap (λ (h : ℕ → Bool). count h 0 (doc .size)) row-gives
+
+      only-is : (test : ℕ → Bool) → only p (doc .size) (inRow doc r v) rep test ≡ (eqb (values doc (alive doc d) r v) 1 && any (λ f. gives doc (alive doc d) r v f && test (rep f)) 0 (doc .size))
+      unfolding only
+      only-is test = ap₂ (λ k (h : ℕ → Bool). eqb k 1 && any (λ f. h f && test (rep f)) 0 (doc .size)) number-is row-gives
+
+      -- what is asked of the only value is asked of the one field version that gives it
+      only-asks : (test : ℕ → Bool) (b : Bool) → ((o : One (gives doc (alive doc d) r v) 0 (doc .size)) → test (rep (o .at)) ≡ b)
+          → only p (doc .size) (inRow doc r v) rep test ≡ (eqb (values doc (alive doc d) r v) 1 && b)
+      unfolding values
+      only-asks test b h =
+          only-is test
+          ∙ and-same (eqb (values doc (alive doc d) r v) 1) _ b
+          (λ e. let o = one (gives doc (alive doc d) r v) 0 (doc .size) (eqb-true _ 1 e) in o .asks (λ f. test (rep f)) ∙ h o)
+
+  -- the holders of a value among the rows of q
+  module _ (q : Rule) (w : (f : ℕ) → wants doc q f ≡ valued doc f) where
+    abbrev holds : ℕ → ℕ → Bool
+    holds = holder p (doc .size) rep (selected doc q) (inRow doc q)
+
+    holds-is : (y u : ℕ) → holds y u ≡ (present doc (alive doc d) q u && eqb (values doc (alive doc d) q u) 1 && any (λ g. gives doc (alive doc d) q u g && eqb (rep g) y) 0 (doc .size))
+    unfolding holder present
+    holds-is y u = regroup (selected doc q u) (p u) (alive doc d u) _ _ _ (λ s. lasts-alive u (selected-version doc q u s)) (λ s. only-is q w u s (λ x. eqb x y))
+      where
+        regroup : (a x y k l m : Bool) → (a ≡ true → x ≡ y) → (a ≡ true → k ≡ (l && m)) → a && (x && k) ≡ (a && y && l && m)
+        regroup true x y k l m h g = ap₂ _&&_ (h refl) (g refl) ∙ sym (and-assoc y l m)
+        regroup false x y k l m h g = refl
+
+    chosen : (u : ℕ) → present doc (alive doc d) q u ≡ true → selected doc q u ≡ true
+    unfolding present
+    chosen u e = and-l (selected doc q u) (alive doc d u) e
+
+    -- u holds the only value of v
+    shares-is : (r : Rule) (v : ℕ) → selected doc r v ≡ true → (o : One (gives doc (alive doc d) r v) 0 (doc .size)) → (u : ℕ) → holds (rep (o .at)) u ≡ sharesOnly doc (alive doc d) r v q u
+    unfolding sharesOnly has
+    shares-is r v s o u =
+        holds-is (rep (o .at)) u
+        ∙ and-same (present doc (alive doc d) q u && eqb (values doc (alive doc d) q u) 1) _ _
+        (λ e.
+        let t = chosen u (and-l (present doc (alive doc d) q u) _ e) in
+        any-same _ _ 0 (doc .size)
+        (λ g a b.
+        and-same (gives doc (alive doc d) q u g) _ _
+        (λ i. eqb-sym (rep g) (rep (o .at)) ∙ sym (represents .same (o .at) g (gives-version r v s (o .at) (o .passes)) (gives-version q u t g i))))
+        ∙ sym (o .asks (has doc (alive doc d) q u)))
+
+    shares-any : (r : Rule) (v : ℕ) → selected doc r v ≡ true → (o : One (gives doc (alive doc d) r v) 0 (doc .size)) → (k : ℕ)
+        → any (holds (rep (o .at))) 0 k ≡ any (sharesOnly doc (alive doc d) r v q) 0 k
+    shares-any r v s o k = any-same _ _ 0 k (λ u a b. shares-is r v s o u)
+
+  -- by the kind k of r: old are the stamps before the first row, of the rule referred to or of none
+  module _ (q r : Rule) (referred : isReference r ≡ true → (f : ℕ) → wants doc q f ≡ valued doc f) (sequenced : isSequenced r ≡ true) (mode low high : ℕ) (old : ℕ → Bool)
+      (fresh : (mode ≡ referring → ⊥) → (y : ℕ) → old y ≡ false)
+      (stands : isReference r ≡ true → mode ≡ referring → (y : ℕ) → old y ≡ any (holder p (doc .size) rep (selected doc q) (inRow doc q) y) 0 (doc .size)) where
+    wants-by : (k : ℕ) → r .kind ≡ k → (f : ℕ) → wants doc r f ≡ wantsBy doc r f k
+    unfolding wants
+    wants-by k e f = rw (sequenced, e)
+
+    abbrev seen : ℕ → ℕ → Bool
+    seen = seenBelow p (doc .size) rep (selected doc r) (inRow doc r) mode old
+
+    module _ (v : ℕ) (s : selected doc r v ≡ true) where
+      -- a value of a key or a unique rule is seen in a lower row
+      distinct-is : (w : (f : ℕ) → wants doc r f ≡ valued doc f) → mode ≡ distinct → only p (doc .size) (inRow doc r v) rep (λ x. wrong mode (seen v x)) ≡ taken doc (alive doc d) r v
+      unfolding taken seenBelow wrong keeps
+      distinct-is w m =
+          only-asks r w v s (λ x. wrong mode (seen v x)) _
+          (λ o. rw (fresh (λ e. omega (arith, m, e)) (rep (o .at)), m) (shares-any r w r v s o v))
+
+      -- a value of a reference is not seen in the rows of the rule referred to
+      referring-is : (w : (f : ℕ) → wants doc r f ≡ valued doc f) → isReference r ≡ true → mode ≡ referring
+          → only p (doc .size) (inRow doc r v) rep (λ x. wrong mode (seen v x)) ≡ (eqb (values doc (alive doc d) r v) 1 && not (any (sharesOnly doc (alive doc d) r v q) 0 (doc .size)))
+      unfolding seenBelow wrong keeps
+      referring-is w k m =
+          only-asks r w v s (λ x. wrong mode (seen v x)) _
+          (λ o. rw (stands k m (rep (o .at)), m) (ap not (or-false _ ∙ shares-any q (referred k) r v s o (doc .size))))
+
+      counted-is : mode ≡ counted → only p (doc .size) (inRow doc r v) rep (λ x. wrong mode (seen v x)) ≡ false
+      unfolding only wrong
+      counted-is m =
+          ap (λ b. eqb (number p (doc .size) (inRow doc r v)) 1 && b) (any-none _ 0 (doc .size) (λ f a b. rw m (and-false (inRow doc r v f && p f))))
+          ∙ and-false (eqb (number p (doc .size) (inRow doc r v)) 1)
+
+      valued-by : (k : ℕ) → r .kind ≡ k → ((f : ℕ) → wantsBy doc r f k ≡ valued doc f) → (f : ℕ) → wants doc r f ≡ valued doc f
+      valued-by k e h f = wants-by k e f ∙ h f
+
+      -- to a cardinality every field version counts, to a datatype those with a wrong value
+      all-number : ((f : ℕ) → wants doc r f ≡ true) → number p (doc .size) (inRow doc r v) ≡ count (λ f. fieldOf doc r v f && alive doc d f) 0 (doc .size)
+      unfolding number
+      all-number w =
+          count-same _ _ 0 (doc .size)
+          (λ f a b. row-is r v s f ∙ ap (λ x. fieldOf doc r v f && alive doc d f && x) (w f) ∙ and-true (fieldOf doc r v f && alive doc d f))
+
+      wrong-number : ((f : ℕ) → wants doc r f ≡ (valued doc f && not (isNumber doc f && within r (doc .value f))))
+          → number p (doc .size) (inRow doc r v) ≡ count (λ f. gives doc (alive doc d) r v f && not (isNumber doc f && within r (doc .value f))) 0 (doc .size)
+      unfolding number gives
+      wrong-number w =
+          count-same _ _ 0 (doc .size)
+          (λ f a b.
+          row-is r v s f ∙ ap (λ x. fieldOf doc r v f && alive doc d f && x) (w f)
+          ∙ sym (and-assoc (fieldOf doc r v f && alive doc d f) (valued doc f) (not (isNumber doc f && within r (doc .value f)))))
+
+      -- a row has none, one, or at most one
+      none : low ≡ 0 → high ≡ 0 → outside low high (number p (doc .size) (inRow doc r v)) ≡ ltb 0 (number p (doc .size) (inRow doc r v))
+      none l h = rw (l, h) (outside-most 0 (number p (doc .size) (inRow doc r v)))
+
+      just-one : (w : (f : ℕ) → wants doc r f ≡ valued doc f) → low ≡ 1 → high ≡ 1 → outside low high (number p (doc .size) (inRow doc r v)) ≡ not (eqb (values doc (alive doc d) r v) 1)
+      just-one w l h = rw (l, h, number-is r w v s) (outside-one (values doc (alive doc d) r v))
+
+      most-one : (w : (f : ℕ) → wants doc r f ≡ valued doc f) → low ≡ 0 → high ≡ 1 → outside low high (number p (doc .size) (inRow doc r v)) ≡ ltb 1 (values doc (alive doc d) r v)
+      most-one w l h = rw (l, h, number-is r w v s) (outside-most 1 (values doc (alive doc d) r v))
+
+      breaks-is : (k : ℕ) → r .kind ≡ k → TermsBy r k mode low high → rowBreaks p (doc .size) rep mode low high (inRow doc r v) (seen v) ≡ breaks doc (alive doc d) q r v k
+      unfolding rowBreaks breaks TermsBy wantsBy key unique reference cardinality datatype
+      breaks-is zero e terms = absurd terms
+      breaks-is (suc zero) e terms =
+          let w = valued-by 1 e (λ f. refl) in
+          ap₂ _||_ (just-one w (terms .1) (terms .2)) (distinct-is w (terms .0))
+      breaks-is (suc (suc zero)) e terms =
+          let w = valued-by 2 e (λ f. refl) in
+          ap₂ _||_ (most-one w (terms .1) (terms .2)) (distinct-is w (terms .0))
+      breaks-is (suc (suc (suc zero))) e terms =
+          let w = valued-by 3 e (λ f. refl) in
+          ap₂ _||_ (most-one w (terms .1) (terms .2)) (referring-is w (eq-eqb (r .kind) 3 e) (terms .0))
+      breaks-is (suc (suc (suc (suc zero)))) e terms =
+          ap₂ _||_ (outside-within r low high _ (terms .1) (terms .2)) (counted-is (terms .0)) ∙ or-false _
+          ∙ ap (λ c. not (within r (pos c))) (all-number (wants-by 4 e))
+      breaks-is (suc (suc (suc (suc (suc k))))) e terms =
+          ap₂ _||_ (none (terms .1) (terms .2)) (counted-is (terms .0)) ∙ or-false _
+          ∙ ap (ltb 0) (wrong-number (wants-by (suc (suc (suc (suc (suc k))))) e)) ∙ sym (any-count _ 0 (doc .size))
+
+    pub offends-is : Terms r mode low high → (v : ℕ) → rowOffends p (doc .size) rep (selected doc r) (inRow doc r) mode old low high v ≡ offends doc (alive doc d) q r v
+    unfolding rowOffends offends present Terms
+    offends-is terms v =
+        behind (selected doc r v) (p v) (alive doc d v) _ _ (λ s. lasts-alive v (selected-version doc r v s)) (λ s. breaks-is v s (r .kind) refl terms)
+      where
+        behind : (a x y k l : Bool) → (a ≡ true → x ≡ y) → (a ≡ true → k ≡ l) → a && (x && k) ≡ (a && y && l)
+        behind true x y k l h g = ap₂ _&&_ (h refl) (g refl)
+        behind false x y k l h g = refl
+
+-- the lists of a rule, and of the rule that it refers to
+module _ (start : ℕ) (next last lower : List ℕ) (start′ : ℕ) (next′ last′ lower′ : List ℕ) (begins ends reps : List ℕ) (d mode low high t : ℕ) where
+  -- the first row that offends, by these stamps, is the first version that does
+  abbrev Answers : List ℕ → Type 0
+  Answers stamps =
+      (doc : Doc) (q r : Rule) → Ready doc r start next last lower begins ends reps
+      → (isReference r ≡ true → Referred doc q start′ next′ last′ lower′ begins ends reps) → isSequenced r ≡ true → Terms r mode low high
+      → first (rowOffends (lasts begins ends d) (length begins) (λ f. getD reps f 0) (selected doc r) (inRow doc r) mode (stamped t stamps) low high) 0 (length begins)
+      ≡ first (offends doc (alive doc d) q r) 0 (doc .size)
+
+  -- the stamps tell the only values of the rule referred to
+  pub answers-referring : mode ≡ referring → (stamps stamps′ : List ℕ) → stamps ≡ stamps′
+      → ((doc : Doc) (q : Rule) → Ready doc q start′ next′ last′ lower′ begins ends reps → (y : ℕ)
+      → stamped t stamps′ y ≡ any (holder (lasts begins ends d) (length begins) (λ f. getD reps f 0) (selected doc q) (inRow doc q) y) 0 (length begins))
+      → Answers stamps
+  answers-referring m stamps stamps′ e holders doc q r s referred sequenced terms =
+      let n = s .periods .begin .size in
+      rw n
+      (first-same _ _ 0 (doc .size)
+      (λ v a b.
+      offends-is doc begins ends reps (s .periods) (s .represents) d q r (λ k. referred k .valued-only) sequenced mode low high (stamped t stamps)
+      (λ i. absurd (i m))
+      (λ k i y. rw e (rw n at (holders doc q (referred k .ready) y)))
+      terms v))
+
+  -- the stamps tell nothing yet
+  pub answers-fresh : (mode ≡ referring → ⊥) → (stamps stamps′ : List ℕ) → stamps ≡ stamps′ → ((x : ℕ) → getD stamps′ x 0 < t) → Answers stamps
+  answers-fresh m stamps stamps′ e low′ doc q r s referred sequenced terms =
+      rw (s .periods .begin .size)
+      (first-same _ _ 0 (doc .size)
+      (λ v a b.
+      offends-is doc begins ends reps (s .periods) (s .represents) d q r (λ k. referred k .valued-only) sequenced mode low high (stamped t stamps)
+      (λ i y. rw e (ne-eqb (getD stamps′ y 0) t (λ z. omega (arith, low′ y))))
+      (λ k i. absurd (m i))
+      terms v))

@@ -1,0 +1,149 @@
+-- The walk from row to row: what the stamps tell of the rows passed, and that none of these offends.
+use mathlib.Core.Path.{_≡_, refl, sym, _∙_, ap, fun-ext}
+use mathlib.Core.Logic.{⊎-elim}
+use mathlib.Core.Bool.{Bool, true, false, _&&_, _||_, not, or-false, and-false, and-or-distrib-left}
+use mathlib.Core.List.{List}
+use Prim.Native.Nat.{ℕ, suc, _≤_, _<_}
+use native.Mathlib.Nat.{eq-or-lt-of-le}
+use native.Mathlib.Omega.{arith}
+use lib.Dec.{eqb}
+use lib.ListN.{getD}
+use borrow.Author.Tests.{ne-eqb, eqb-true}
+use Rattle.meaning.specs.declared.Found.the-variants.{At, Nothing}
+use Rattle.meaning.specs.Walk.{any, first}
+use Rattle.meaning.proofs.Basics.{went, le-or-lt, clear}
+use Rattle.meaning.proofs.Walks.{any-none, first-at, first-none}
+use Rattle.meaning.proofs.Loops.{any-last}
+use Rattle.day.specs.Ready.{distinct}
+use Rattle.day.specs.Row.{stamped, number, only, outside, keeps, rowBreaks, rowKeeps, Met}
+use Rattle.day.specs.Table.{holder, seenBelow, rowOffends}
+use Rattle.marks.proofs.After.{Next}
+use Rattle.day.proofs.Skipping.{any-skips}
+
+one-more : (a k b x : Bool) → (a || (k && b)) || (k && x) ≡ (a || (k && (b || x)))
+one-more true k b x = refl
+one-more false k b x = sym (and-or-distrib-left k b x)
+
+module _ (p : ℕ → Bool) (n : ℕ) (rep : ℕ → ℕ) (chosen : ℕ → Bool) (rows : ℕ → ℕ → Bool) (mode t : ℕ) (old : List ℕ) where
+  -- the only value of row v is y
+  abbrev holds : ℕ → ℕ → Bool
+  holds v y = p v && only p n (rows v) rep (λ x. eqb x y)
+
+  -- the walk has come to record v, a chosen one or the end, and the stamps tell the only values of the rows below it
+  pub record Marked (v : ℕ) (stamps : List ℕ) : Type 0 where
+    pub most : v ≤ n
+    pub is-chosen : v < n → chosen v ≡ true
+    pub seen : (y : ℕ) → stamped t stamps y ≡ seenBelow p n rep chosen rows mode (stamped t old) v y
+
+  not-held : (y u : ℕ) → chosen u ≡ false → holder p n rep chosen rows y u ≡ false
+  unfolding holder
+  not-held y u e = rw e
+
+  held : (y u : ℕ) → chosen u ≡ true → holder p n rep chosen rows y u ≡ holds u y
+  unfolding holder
+  held y u e = rw e
+
+  pub marked-start : (start : ℕ) → Next chosen n 0 start → Marked start old
+  unfolding seenBelow
+  marked-start start s =
+      record {
+        most = s .to;
+        is-chosen = s .passes;
+        seen = λ y. let none = any-none (holder p n rep chosen rows y) 0 start (λ u a b. not-held y u (s .before u a (omega arith))) in rw (none, and-false (keeps mode)) (sym (or-false (stamped t old y)));
+      }
+
+  module _ (v : ℕ) (stamps : List ℕ) (s : Marked v stamps) (h : v < n) (next : ℕ) (to : Next chosen n (suc v) next) where
+    held-next : (y : ℕ) → any (holder p n rep chosen rows y) 0 next ≡ (any (holder p n rep chosen rows y) 0 v || holds v y)
+    held-next y =
+        any-skips (holder p n rep chosen rows y) (suc v) next (to .from) (λ u a b. not-held y u (to .before u a b))
+        ∙ any-last (holder p n rep chosen rows y) v
+        ∙ ap (λ b. any (holder p n rep chosen rows y) 0 v || b) (held y v (s .is-chosen h))
+
+    marked-step : (stamps′ : List ℕ) → ((y : ℕ) → stamped t stamps′ y ≡ (stamped t stamps y || (keeps mode && holds v y))) → Marked next stamps′
+    unfolding seenBelow
+    marked-step stamps′ kept =
+        record {
+          most = to .to;
+          is-chosen = to .passes;
+          seen =
+              λ y.
+              kept y ∙ ap (λ b. b || (keeps mode && holds v y)) (s .seen y)
+              ∙ one-more (stamped t old y) (keeps mode) (any (holder p n rep chosen rows y) 0 v) (holds v y)
+              ∙ ap (λ b. stamped t old y || (keeps mode && b)) (sym (held-next y));
+        }
+
+  -- at the end, where no stamp was t before, they tell the only values of all rows
+  pub marked-all : (v : ℕ) (stamps : List ℕ) → Marked v stamps → n ≤ v → mode ≡ distinct → ((x : ℕ) → getD old x 0 < t) → (y : ℕ) → stamped t stamps y ≡ any (holder p n rep chosen rows y) 0 n
+  unfolding seenBelow keeps
+  marked-all v stamps s h m new y =
+      let e : v ≡ n = omega (arith, s .most) in
+      let f : stamped t old y ≡ false = ne-eqb (getD old y 0) t (λ q. omega (arith, new y)) in
+      s .seen y ∙ rw (f, m, e)
+
+  -- with the bounds 0..1 a row leaves its only value, whatever the answer
+  left-always : (v y : ℕ) → p v && rowKeeps p n rep mode 0 1 (rows v) y ≡ (keeps mode && holds v y)
+  unfolding rowKeeps only
+  left-always v y = one (number p n (rows v)) (p v) (keeps mode) _
+    where
+      one : (c : ℕ) (a k q : Bool) → a && (k && (not (outside 0 1 c) && (eqb c 1 && q))) ≡ (k && (a && (eqb c 1 && q)))
+      one c false k q = sym (and-false k)
+      one c true k q =
+          ap (λ b. k && b)
+          (⊎-elim
+          (λ i. let e : c ≡ 1 = eqb-true c 1 i in rw e)
+          (λ i. rw i (and-false (not (outside 0 1 c))))
+          (went (eqb c 1)))
+
+  pub marked-met : (v : ℕ) (stamps : List ℕ) → Marked v stamps → v < n → (after : List ℕ) (answer : Bool) → Met p n rep mode 0 1 (rows v) v t stamps after answer
+      → (next : ℕ) → Next chosen n (suc v) next → Marked next after
+  marked-met v stamps s h after answer met next to =
+      marked-step v stamps s h next to after (λ y. met .stamps y ∙ ap (λ b. stamped t stamps y || b) (left-always v y))
+
+  module _ (low high : ℕ) where
+    -- and none of those below it offends
+    pub record Looked (v : ℕ) (stamps : List ℕ) : Type 0 where
+      pub marked : Marked v stamps
+      pub none : (u : ℕ) → u < v → rowOffends p n rep chosen rows mode (stamped t old) low high u ≡ false
+
+    not-offends : (u : ℕ) → chosen u ≡ false → rowOffends p n rep chosen rows mode (stamped t old) low high u ≡ false
+    unfolding rowOffends
+    not-offends u e = rw e
+
+    pub looked-start : (start : ℕ) → Next chosen n 0 start → Looked start old
+    looked-start start s = record { marked = marked-start start s; none = λ u h. not-offends u (s .before u (omega arith) h) }
+
+    pub looked-end : (v : ℕ) (stamps : List ℕ) → Looked v stamps → n ≤ v → Nothing ≡ first (rowOffends p n rep chosen rows mode (stamped t old) low high) 0 n
+    looked-end v stamps s h = sym (first-none _ 0 n (λ u a b. s .none u (omega arith)))
+
+    module _ (v : ℕ) (stamps : List ℕ) (s : Looked v stamps) (h : v < n) (after : List ℕ) (answer : Bool) (met : Met p n rep mode low high (rows v) v t stamps after answer) where
+      -- the answer is about record v
+      answered : rowOffends p n rep chosen rows mode (stamped t old) low high v ≡ answer
+      unfolding rowOffends
+      answered =
+          rw (s .marked .is-chosen h)
+          (sym (met .answers ∙ ap (λ (f : ℕ → Bool). p v && rowBreaks p n rep mode low high (rows v) f) (fun-ext (s .marked .seen))))
+
+      pub looked-found : answer ≡ true → At v ≡ first (rowOffends p n rep chosen rows mode (stamped t old) low high) 0 n
+      looked-found y = sym (first-at _ v 0 n (omega arith) (omega arith) (answered ∙ y) (λ u a b. s .none u b))
+
+      -- a row that does not offend leaves its only value
+      left : answer ≡ false → (y : ℕ) → p v && rowKeeps p n rep mode low high (rows v) y ≡ (keeps mode && holds v y)
+      unfolding rowBreaks rowKeeps
+      left e y = within (p v) (outside low high (number p n (rows v))) _ (keeps mode) _ (sym (met .answers) ∙ e)
+        where
+          within : (a o w k q : Bool) → a && (o || w) ≡ false → a && (k && (not o && q)) ≡ (k && (a && q))
+          within false o w k q i = sym (and-false k)
+          within true true w k q i = absurd (clear refl i)
+          within true false w k q i = refl
+
+      pub looked-step : answer ≡ false → (next : ℕ) → Next chosen n (suc v) next → Looked next after
+      looked-step e next to =
+          record {
+            marked = marked-step v stamps (s .marked) h next to after (λ y. met .stamps y ∙ ap (λ b. stamped t stamps y || b) (left e y));
+            none =
+                λ u b.
+                ⊎-elim
+                (λ (a : u ≤ v). ⊎-elim (λ q. ap (rowOffends p n rep chosen rows mode (stamped t old) low high) q ∙ answered ∙ e) (λ (l : u < v). s .none u l) (eq-or-lt-of-le a))
+                (λ (l : v < u). not-offends u (to .before u (omega arith) b))
+                (le-or-lt u v);
+          }

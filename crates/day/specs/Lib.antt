@@ -1,0 +1,4 @@
+-- The definitions that the contracts cite.
+pub mod Ready
+pub mod Row
+pub mod Table

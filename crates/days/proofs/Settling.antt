@@ -1,0 +1,107 @@
+-- From a rule prepared over an accepted document to its verdict: the walk may be taken, and what it answers is the verdict over every day.
+use mathlib.Core.Path.{_≡_, refl, sym, ap, ap₂, _∙_, fun-ext}
+use mathlib.Core.Bool.{Bool, true, false, _||_, cond}
+use mathlib.Core.Logic.{_⊎_, inl, inr, ⊎-elim}
+use mathlib.Core.List.{List}
+use Prim.Native.Nat.{ℕ, _-_, _≤_, _<_}
+use native.Mathlib.Omega.{arith}
+use lib.Dec.{eqb}
+use lib.ListN.{length, getD}
+use borrow.Author.Tests.{eqb-true, eq-eqb, ne-eqb}
+use Rattle.meaning.specs.declared.Found.{Found}
+use Rattle.meaning.specs.declared.Rule.{Rule}
+use Rattle.meaning.specs.declared.Verdict.{Verdict}
+use Rattle.meaning.specs.Walk.{pick, first}
+use Rattle.meaning.specs.Document.{Doc}
+use Rattle.meaning.specs.Rules.{isKey, isUnique, isReference, isSequenced, ruleFields}
+use Rattle.meaning.specs.Select.{valued, readsOwn}
+use Rattle.meaning.specs.Day.{alive, offends, offender, isChange, changeDays, onDays}
+use Rattle.meaning.proofs.Basics.{went, or-cases}
+use Rattle.meaning.proofs.Accepted.{accepted-sound}
+use Rattle.meaning.proofs.Slices.{present-alive}
+use Rattle.meaning.proofs.Over.{over}
+use Rattle.meaning.proofs.Changes.{verdict-changes}
+use Rattle.document.specs.Columns.{limit}
+use Rattle.document.specs.Lent.{Tree, Values, Periods, Checked}
+use Rattle.marks.specs.Marks.{marked, Marks}
+use Rattle.values.specs.Represents.{Represents}
+use Rattle.prepare.specs.declared.Prepared.{Prepared}
+use Rattle.prepare.specs.Rows.{wantsBy, wants, Rows}
+use Rattle.changes.proofs.Spans.{last-few, in-order, change-list}
+use Rattle.day.specs.Ready.{Ready, Referred, Terms}
+use Rattle.days.specs.Judging.{Walkable, Posed, offenderAlive, Rowed, Settled}
+
+-- rows with the columns read along them
+ready : {doc : Doc} {r : Rule} {own : Prepared} {begins ends reps : List ℕ} → Rowed doc r own → Periods doc begins ends → Represents doc reps
+    → Ready doc r (own .start) (own .next) (own .last) (own .lower) begins ends reps
+ready s w v = record { rows = s .rows; periods = w; represents = v }
+
+module _ {doc : Doc} {q r : Rule} {own held : Prepared} {begins ends reps : List ℕ} (s : Settled doc q r own held begins ends reps) (f : ruleFields r ≡ true) where
+  pub walkable : {days stamps : List ℕ} → 36526 ≤ length days → limit ≤ length stamps → ((x : ℕ) → getD stamps x 0 ≡ 0)
+      → Walkable (own .start) (own .next) (own .last) (own .lower) (held .start) (held .next) (held .last) (held .lower) begins ends reps days (r .begin) (r .end) stamps
+  walkable h l z =
+      record {
+        doc = doc;
+        rule = r;
+        other = s .other;
+        ready = ready (s .rowed) (s .periods) (s .represents);
+        held = ready (s .other-rowed) (s .periods) (s .represents);
+        order = in-order r f;
+        marks = omega (arith, last-few r f);
+        days-few = last-few r f;
+        room = omega (arith, s .checked .few);
+        clear = z;
+      }
+
+  module _ (k : isSequenced r ≡ true) where
+    pub posed : {mode low high : ℕ} → Terms r mode low high
+        → Posed doc q r (own .start) (own .next) (own .last) (own .lower) (held .start) (held .next) (held .last) (held .lower) begins ends reps mode low high
+    posed t =
+        record {
+          ready = ready (s .rowed) (s .periods) (s .represents);
+          referred = λ e. let g = s .referred e in record { ready = ready (g .0) (s .periods) (s .represents); valued-only = g .1 };
+          sequenced = k;
+          terms = t;
+        }
+
+    -- who offends among the versions alive offends on the day
+    same-offender : offenderAlive doc q r ≡ offender doc q r
+    unfolding offender
+    same-offender =
+        fun-ext (λ d. ap (λ (p : ℕ → Bool). first (offends doc p q r) 0 (doc .size)) (fun-ext (λ v. sym (present-alive doc (accepted-sound doc (s .checked .accepted)) d v))))
+
+    pub judged : {days : List ℕ} → Marks (isChange doc q r) 36526 days → {x : Verdict}
+        → x ≡ over (offenderAlive doc q r) (pick (marked days) (r .begin) (r .end - r .begin)) 0 → x ≡ onDays doc q r
+    judged m e =
+        e ∙ ap₂ (λ (g : ℕ → Found) (ds : List ℕ). over g ds 0) same-offender (change-list doc q r f m)
+        ∙ sym (verdict-changes doc q r (accepted-sound doc (s .checked .accepted)))
+
+-- all that matters to a key or a unique rule is what has a value
+valued-by : (doc : Doc) (q : Rule) (f k : ℕ) → (k ≡ 1) ⊎ (k ≡ 2) → wantsBy doc q f k ≡ valued doc f
+unfolding wantsBy
+valued-by doc q f k (inl e) = rw e
+valued-by doc q f k (inr e) = rw e
+
+pub valued-only : (doc : Doc) (q : Rule) → (isKey q || isUnique q) ≡ true → (f : ℕ) → wants doc q f ≡ valued doc f
+unfolding wants
+valued-only doc q e f =
+    let k = ⊎-elim (λ t. inl (eqb-true (q .kind) 1 t)) (λ t. inr (eqb-true (q .kind) 2 t)) (or-cases (isKey q) (isUnique q) e) in
+    ⊎-elim (λ y. rw y (valued-by doc q f (q .kind) k)) (λ z. rw z) (went (isSequenced q))
+
+-- what preparing has given, put together: p is q where r is a reference
+pub settled : {doc : Doc} {p q r : Rule} {own held : Prepared} {begins ends reps : List ℕ} → (isReference r ≡ true → p ≡ q) → (isReference r ≡ true → (isKey q || isUnique q) ≡ true)
+    → Rows doc r (own .start) (own .next) (own .last) (own .lower) → Marks (readsOwn doc r) (doc .size) (own .read)
+    → (isReference r ≡ true → Rowed doc q held) → (Rowed doc r own → (o : Rule) × Rowed doc o held)
+    → Periods doc begins ends → Represents doc reps → Checked doc → Settled doc p r own held begins ends reps
+settled {doc} {p} {q} same kinds rows read referred some w v c =
+    let own : Rowed doc _ _ = record { rows = rows; read = read } in
+    let o = some own in
+    record {
+      rowed = own;
+      other = o .0;
+      other-rowed = o .1;
+      referred = λ e. rw (same e) (referred e, valued-only doc q (kinds e));
+      periods = w;
+      represents = v;
+      checked = c;
+    }

@@ -1,0 +1,27 @@
+-- `days::terms::terms` meets its contract: one way out for each kind.
+use Rattle.days.proofs.Termwise.{key-terms, unique-terms, reference-terms, datatype-terms}
+use borrow.Author.Needs.{needs}
+use Rattle.days.proofs.terms.terms.Statement.{statement}
+use Rattle.days.proofs.terms.terms.Tie as tie
+
+returns : tie.Need-returns
+returns c = key-terms _ (c .if1 .taken)
+
+returns-2 : tie.Need-returns-2
+returns-2 c = unique-terms _ (c .if2 .taken)
+
+returns-3 : tie.Need-returns-3
+returns-3 c = reference-terms _ (c .if3 .taken)
+
+own-bounds-requires : tie.Need-own-bounds-requires
+own-bounds-requires c κs = search needs
+
+returns-4 : tie.Need-returns-4
+returns-4 c = search needs
+
+returns-5 : tie.Need-returns-5
+returns-5 c = datatype-terms _ (c .before .before .before .before .before .before .before .before .pre) (c .before .before .before .before .before .before .if1 .left) (c .before .before .before .before .if2 .left) (c .before .before .if3 .left) (c .if4 .left)
+
+pub terms-spec : {M : Type 1} → statement M
+terms-spec =
+    tie.close (tie.spec returns returns-2 returns-3 own-bounds-requires returns-4 returns-5)

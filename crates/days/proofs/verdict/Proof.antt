@@ -1,0 +1,36 @@
+-- `days::verdict` meets its contract: both rules are prepared, and the first is judged.
+use mathlib.Core.Path.{_≡_, refl, sym, ap, _∙_}
+use Rattle.changes.proofs.Spans.{steps-few}
+use Rattle.days.proofs.Settling.{settled}
+use Rattle.days.proofs.verdict.Statement.{statement}
+use Rattle.days.proofs.verdict.Tie as tie
+
+prepare-requires : tie.Need-prepare-requires
+prepare-requires c κs =
+    let p = c .before .before .before .before .before .before .before .pre in
+    (steps-few _ (p .0), (p .2 .0, p .2 .1, p .2 .2, p .2 .5))
+
+prepare-referred-requires : tie.Need-prepare-referred-requires
+prepare-referred-requires c κs =
+    let p = c .before .before .before .before .before .before .before .before .pre in
+    (λ k. p .1 k .0, (p .2 .0, p .2 .1, p .2 .2, p .2 .5))
+
+judge-requires : tie.Need-judge-requires
+judge-requires c κs =
+    let p = c .before .before .before .before .before .before .before .before .before .pre in
+    let own = c .before .prepare .ensures in
+    let held = c .prepare-referred .ensures in
+    let d = p .2 in
+    (p .0, (d .0, _, settled (λ k. refl) (λ k. p .1 k .1) (own .0 (d .0) (d .1) (d .2)) (own .1 (d .0) (d .1)) (held .0 (d .0) (d .1) (d .2)) (held .1 (d .0) (d .1) (d .2)) (d .3) (d .4) (d .5)))
+
+returns : tie.Need-returns
+returns c =
+    let p = c .before .before .before .before .before .before .before .before .before .before .pre in
+    let own = c .before .before .prepare .ensures in
+    let held = c .before .prepare-referred .ensures in
+    λ doc q t w d v ok k e.
+    c .judge .ensures doc q (settled e (λ g. p .1 g .1) (own .0 doc t w) (own .1 doc t) (held .0 doc t w) (held .1 doc t w) d v ok) k
+
+pub verdict-spec : {M : Type 1} → statement M
+verdict-spec =
+    tie.close (tie.spec prepare-requires prepare-referred-requires judge-requires returns)

@@ -1,0 +1,58 @@
+-- What the walk over the change days is asked over, and what it answers.
+use mathlib.Core.Path.{_≡_}
+use mathlib.Core.Bool.{true}
+use mathlib.Core.List.{List}
+use Prim.Native.Nat.{ℕ, _≤_}
+use lib.ListN.{length, getD}
+use Rattle.meaning.specs.declared.Found.{Found}
+use Rattle.meaning.specs.declared.Rule.{Rule}
+use Rattle.meaning.specs.Walk.{first}
+use Rattle.meaning.specs.Document.{Doc}
+use Rattle.meaning.specs.Day.{alive, offends}
+use Rattle.meaning.specs.Rules.{isReference, isSequenced}
+use Rattle.meaning.specs.Select.{readsOwn, valued}
+use Rattle.document.specs.Lent.{Periods, Checked}
+use Rattle.marks.specs.Marks.{Marks}
+use Rattle.values.specs.Represents.{Represents}
+use Rattle.prepare.specs.declared.Prepared.{Prepared}
+use Rattle.prepare.specs.Rows.{wants, Rows}
+use Rattle.day.specs.Ready.{Ready, Referred, Terms}
+
+-- two prepared rules over one document, marks for the days of a stretch, and a clear stamp for each record
+pub record Walkable (start : ℕ) (next last lower : List ℕ) (held-start : ℕ) (held-next held-last held-lower begins ends reps days : List ℕ) (from to : ℕ) (stamps : List ℕ) : Type 0 where
+  pub doc : Doc
+  pub rule : Rule
+  pub other : Rule
+  pub ready : Ready doc rule start next last lower begins ends reps
+  pub held : Ready doc other held-start held-next held-last held-lower begins ends reps
+  pub order : from ≤ to
+  pub marks : to ≤ length days
+  pub days-few : to ≤ 36526
+  pub room : doc .size ≤ length stamps
+  pub clear : (x : ℕ) → getD stamps x 0 ≡ 0
+
+-- a sequenced rule r that refers to q, prepared, with its mode and bounds
+pub record Posed (doc : Doc) (q r : Rule) (start : ℕ) (next last lower : List ℕ) (held-start : ℕ) (held-next held-last held-lower begins ends reps : List ℕ) (mode low high : ℕ) : Type 0 where
+  pub ready : Ready doc r start next last lower begins ends reps
+  pub referred : isReference r ≡ true → Referred doc q held-start held-next held-last held-lower begins ends reps
+  pub sequenced : isSequenced r ≡ true
+  pub terms : Terms r mode low high
+
+-- the lowest offender among the versions alive on day d; in a sound document that is the lowest of the day
+abbrev pub offenderAlive : Doc → Rule → Rule → ℕ → Found
+offenderAlive doc q r d = first (offends doc (alive doc d) q r) 0 (doc .size)
+
+-- what a prepared rule of a document holds: its rows, and a mark on each version that it reads
+pub record Rowed (doc : Doc) (r : Rule) (own : Prepared) : Type 0 where
+  pub rows : Rows doc r (own .start) (own .next) (own .last) (own .lower)
+  pub read : Marks (readsOwn doc r) (doc .size) (own .read)
+
+-- rule r, which refers to q if it is a reference, and the rule that it refers to, or another one, prepared over an accepted document
+pub record Settled (doc : Doc) (q r : Rule) (own held : Prepared) (begins ends reps : List ℕ) : Type 0 where
+  pub rowed : Rowed doc r own
+  pub other : Rule
+  pub other-rowed : Rowed doc other held
+  pub referred : isReference r ≡ true → Rowed doc q held × ((f : ℕ) → wants doc q f ≡ valued doc f)
+  pub periods : Periods doc begins ends
+  pub represents : Represents doc reps
+  pub checked : Checked doc

@@ -1,0 +1,159 @@
+// The verdict on a sequenced rule, over the columns of an accepted document: its change days are walked, and on each the lowest offender is looked for.
+use document::LIMIT;
+use meaning::Found;
+use meaning::Rule;
+use meaning::Verdict;
+use prepare::Prepared;
+ghost use mathlib.Core.Path.{_≡_};
+ghost use mathlib.Core.Bool.{true, _||_};
+ghost use Prim.Native.Nat.{_-_};
+ghost use Rattle.meaning.specs.declared.Rule.{Rule};
+ghost use Rattle.meaning.specs.Document.{Doc};
+ghost use Rattle.meaning.specs.Walk.{pick};
+ghost use Rattle.meaning.specs.Rules.{isKey, isUnique, isReference, isSequenced, ruleFields};
+ghost use Rattle.meaning.specs.Day.{onDays};
+ghost use Rattle.meaning.proofs.Over.{over};
+ghost use Rattle.document.specs.Lent.{Tree, Values, Periods, Checked};
+ghost use Rattle.marks.specs.Marks.{marked};
+ghost use Rattle.values.specs.Represents.{Represents};
+ghost use Rattle.days.specs.Judging.{Walkable, Posed, offenderAlive, Rowed, Settled};
+
+mod terms; // terms.rt: how a rule of each kind counts
+
+// The first of the marked days from `from` on and below `to` that has an offender, with its lowest one and how many days were looked at.
+// Cost: a look at each day of the stretch, and for each marked one a look for each selected version and each of its wanted field versions.
+fn walk(
+    start: usize,
+    next: &[u16],
+    last: &[u16],
+    lower: &[u16],
+    held_start: usize,
+    held_next: &[u16],
+    held_last: &[u16],
+    held_lower: &[u16],
+    begin: &[u16],
+    end: &[u16],
+    rep: &[u16],
+    days: &[u8],
+    from: usize,
+    to: usize,
+    mode: u8,
+    low: usize,
+    high: usize,
+    stamp: &mut [u16],
+) -> Verdict
+    requires { ⌜ Walkable start (now next) (now last) (now lower) «held_start» (now «held_next») (now «held_last») (now «held_lower») (now begin) (now end) (now rep) (now days) from to (now stamp) ⌝ }
+    ensures { λ x. ⌜ ((doc : Doc) → (q r : Rule) → Posed doc q r start (now (next .entry)) (now (last .entry)) (now (lower .entry)) «held_start» (now («held_next» .entry)) (now («held_last» .entry)) (now («held_lower» .entry)) (now (begin .entry)) (now (end .entry)) (now (rep .entry)) mode low high → x ≡ over (offenderAlive doc q r) (pick (marked (now (days .entry))) from (to - from)) 0) ⌝ }
+{
+    let mut looked: usize = 0;
+    let mut d = marks::next_marked(days, from, to);
+    while d < to {
+        looked += 1;
+        let found = day::offender_on(
+            start,
+            next,
+            last,
+            lower,
+            held_start,
+            held_next,
+            held_last,
+            held_lower,
+            begin,
+            end,
+            rep,
+            d as u16,
+            mode,
+            low,
+            high,
+            looked as u16,
+            stamp,
+        );
+        if let Found::At(v) = found {
+            return Verdict::Fails(d, v, looked);
+        }
+        d = marks::next_marked(days, d + 1, to);
+    }
+    Verdict::Holds(looked)
+}
+
+// The verdict on a prepared rule. Cost: a look at each record for the change days, then the walk.
+fn judge(own: Prepared, held: Prepared, begin: &[u16], end: &[u16], rep: &[u16], r: Rule) -> Verdict
+    requires { ⌜ (ruleFields r ≡ true) × ((doc : Doc) × (q : Rule) × Settled doc q r own held (now begin) (now end) (now rep)) ⌝ }
+    ensures { λ x. ⌜ ((doc : Doc) → (q : Rule) → Settled doc q r own held (now (begin .entry)) (now (end .entry)) (now (rep .entry)) → isSequenced r ≡ true → x ≡ onDays doc q r) ⌝ }
+{
+    let read = own.read;
+    let held_read = held.read;
+    let days = changes::change_marks(&read, r.kind == 3, &held_read, begin, end, r.begin);
+    let bounds = terms::terms(r);
+    let next = own.next;
+    let last = own.last;
+    let lower = own.lower;
+    let held_next = held.next;
+    let held_last = held.last;
+    let held_lower = held.lower;
+    let mut stamp = [0u16; LIMIT];
+    walk(
+        own.start,
+        &next,
+        &last,
+        &lower,
+        held.start,
+        &held_next,
+        &held_last,
+        &held_lower,
+        begin,
+        end,
+        rep,
+        &days,
+        r.begin as usize,
+        r.end as usize,
+        bounds.mode,
+        bounds.low,
+        bounds.high,
+        &mut stamp,
+    )
+}
+
+// The rule that a reference refers to, prepared; the rule itself again if it is none.
+fn prepare_referred(
+    kind: &[u8],
+    vkind: &[u8],
+    name: &[u16],
+    parent: &[u16],
+    value: &[i32],
+    own: Prepared,
+    q: Rule,
+    r: Rule,
+) -> Prepared
+    requires { ⌜ (isReference r ≡ true → ruleFields q ≡ true) × ((doc : Doc) × Tree doc (now kind) (now name) (now parent) × Values doc (now kind) (now vkind) (now value) × Checked doc) ⌝ }
+    ensures referred { λ x. ⌜ ((doc : Doc) → Tree doc (now (kind .entry)) (now (name .entry)) (now (parent .entry)) → Values doc (now (kind .entry)) (now (vkind .entry)) (now (value .entry)) → isReference r ≡ true → Rowed doc q x) ⌝ }
+    ensures some { λ x. ⌜ ((doc : Doc) → Tree doc (now (kind .entry)) (now (name .entry)) (now (parent .entry)) → Values doc (now (kind .entry)) (now (vkind .entry)) (now (value .entry)) → Rowed doc r own → ((p : Rule) × Rowed doc p x)) ⌝ }
+{
+    if r.kind != 3 {
+        return own;
+    }
+    prepare::prepare(kind, vkind, name, parent, value, q)
+}
+
+// The verdict on the sequenced rule r, which refers to q if it is a reference, over an accepted document with a representative for each value.
+// Cost: preparing the rule, and the rule that it refers to; then a look at each day of its period, and for each change day a look for
+// each selected version and each of its wanted field versions.
+pub fn verdict(
+    kind: &[u8],
+    vkind: &[u8],
+    name: &[u16],
+    parent: &[u16],
+    begin: &[u16],
+    end: &[u16],
+    value: &[i32],
+    rep: &[u16],
+    q: Rule,
+    r: Rule,
+) -> Verdict
+    requires { ⌜ (ruleFields r ≡ true) × (isReference r ≡ true → (ruleFields q ≡ true) × ((isKey q || isUnique q) ≡ true)) × ((doc : Doc) × Tree doc (now kind) (now name) (now parent) × Values doc (now kind) (now vkind) (now value) × Periods doc (now begin) (now end) × Represents doc (now rep) × Checked doc) ⌝ }
+    ensures { λ x. ⌜ ((doc : Doc) → (p : Rule) → Tree doc (now (kind .entry)) (now (name .entry)) (now (parent .entry)) → Values doc (now (kind .entry)) (now (vkind .entry)) (now (value .entry)) → Periods doc (now (begin .entry)) (now (end .entry)) → Represents doc (now (rep .entry)) → Checked doc → isSequenced r ≡ true → (isReference r ≡ true → p ≡ q) → x ≡ onDays doc p r) ⌝ }
+{
+    let own = prepare::prepare(kind, vkind, name, parent, value, r);
+    let held = prepare_referred(kind, vkind, name, parent, value, own, q, r);
+    judge(own, held, begin, end, rep, r)
+}

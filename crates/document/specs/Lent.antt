@@ -1,0 +1,43 @@
+-- What lent columns are to a document: each has its length and holds one field of its records. Contracts say "for every document that these columns hold".
+use mathlib.Core.Path.{_≡_}
+use mathlib.Core.List.{List}
+use Prim.Native.Nat.{ℕ, _≤_}
+use lib.IntN.{ℤ, pos}
+use lib.ListN.{length, getD}
+use Rattle.meaning.specs.declared.Reading.the-variants.{Accepted}
+use Rattle.meaning.specs.Document.{Doc}
+use Rattle.meaning.specs.Nodes.{accept}
+use Rattle.document.specs.Columns.{limit}
+
+-- a column of n entries, one for each record, and `other` past them
+pub record Lends {A : Type 0} (n : ℕ) (field : ℕ → A) (other : A) (column : List A) : Type 0 where
+  pub size : length column ≡ n
+  pub at : (i : ℕ) → getD column i other ≡ field i
+
+-- kind, name and parent: what a path is matched against
+pub record Tree (doc : Doc) (kinds names parents : List ℕ) : Type 0 where
+  pub kind : Lends (doc .size) (doc .kind) 0 kinds
+  pub name : Lends (doc .size) (doc .name) 0 names
+  pub parent : Lends (doc .size) (doc .parent) 0 parents
+
+-- kind, value kind and value
+pub record Values (doc : Doc) (kinds vkinds : List ℕ) (values : List ℤ) : Type 0 where
+  pub kind : Lends (doc .size) (doc .kind) 0 kinds
+  pub vkind : Lends (doc .size) (doc .vkind) 0 vkinds
+  pub value : Lends (doc .size) (doc .value) (pos 0) values
+
+-- begin and end
+pub record Periods (doc : Doc) (begins ends : List ℕ) : Type 0 where
+  pub begin : Lends (doc .size) (doc .begin) 0 begins
+  pub end : Lends (doc .size) (doc .end) 0 ends
+
+-- kind, parent and item number
+pub record Numbers (doc : Doc) (kinds parents items : List ℕ) : Type 0 where
+  pub kind : Lends (doc .size) (doc .kind) 0 kinds
+  pub parent : Lends (doc .size) (doc .parent) 0 parents
+  pub item : Lends (doc .size) (doc .item) 0 items
+
+-- an accepted document, of no more records than a document can have
+pub record Checked (doc : Doc) : Type 0 where
+  pub accepted : accept doc ≡ Accepted
+  pub few : doc .size ≤ limit

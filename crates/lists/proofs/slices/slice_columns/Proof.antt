@@ -1,0 +1,42 @@
+-- `lists::slices::slice_columns` meets its contract: the versions alive are marked, and the marked ones stored.
+use Rattle.marks.proofs.Listing.{picked-all}
+use Rattle.lists.proofs.Marking.{answer-of, lent-of}
+use Rattle.meaning.specs.Day.{alive}
+use borrow.Author.Needs.{needs}
+use Rattle.lists.proofs.slices.slice_columns.Statement.{statement}
+use Rattle.lists.proofs.slices.slice_columns.Tie as tie
+
+slice-aggregate-mark-alive : tie.Need-slice-aggregate-mark-alive
+slice-aggregate-mark-alive c = search needs
+
+mark-alive-requires : tie.Need-mark-alive-requires
+mark-alive-requires c κs = search needs
+
+slice-aggregate-store-marked : tie.Need-slice-aggregate-store-marked
+slice-aggregate-store-marked c = search needs
+
+store-marked-requires : tie.Need-store-marked-requires
+store-marked-requires c κs = search needs
+
+same-length : tie.Need-same-length
+same-length c = search needs
+
+returns : tie.Need-returns
+returns c =
+    let a = c .before .before .before .before .before .before .mark-alive in
+    let s = c .before .before .store-marked in
+    let lent = c .before .before .before .before .before .before .before .before .before .before .before .before .args .out .now in (
+      λ doc t w. answer-of _ _ lent (picked-all (alive doc _) (doc .size) _ _ (a .ensures doc t w) (t .size)) (s .ensures .0),
+      λ doc t w. lent-of _ _ lent (picked-all (alive doc _) (doc .size) _ _ (a .ensures doc t w) (t .size)) (s .result) _ (s .ensures .1),
+    )
+
+pub slice-columns-spec : {M : Type 1} → statement M
+slice-columns-spec =
+    tie.close
+    (tie.spec
+    slice-aggregate-mark-alive
+    mark-alive-requires
+    slice-aggregate-store-marked
+    store-marked-requires
+    same-length
+    returns)

@@ -1,0 +1,121 @@
+// The change days of a rule, marked and stored.
+use document::LIMIT;
+use meaning::Listed;
+use meaning::Reading;
+use meaning::Rule;
+ghost use mathlib.Core.Path.{_≡_};
+ghost use mathlib.Core.Bool.{true};
+ghost use Prim.Native.Nat.{_-_, _≤_};
+ghost use lib.ListN.{length, take};
+ghost use Rattle.meaning.specs.declared.Rule.{Rule};
+ghost use Rattle.meaning.specs.declared.Reading.the-variants.{Accepted};
+ghost use Rattle.meaning.specs.Document.{Doc};
+ghost use Rattle.meaning.specs.Rules.{isReference, ruleFields, ruleAt, rulesOf, readRules};
+ghost use Rattle.meaning.specs.Select.{readsOwn};
+ghost use Rattle.meaning.specs.Day.{changeDays};
+ghost use Rattle.meaning.specs.Answer.{storing, lentAfter};
+ghost use Rattle.document.specs.Lent.{Tree, Periods, Checked};
+ghost use Rattle.marks.specs.Marks.{Marks};
+ghost use Rattle.lists.specs.Lending.{Fronts, readTurning, turningDays};
+
+// The marks of the versions read by the rule that a reference refers to; those of any other rule again.
+fn read_referred(
+    kind: &[u8],
+    name: &[u16],
+    parent: &[u16],
+    own: [u8; LIMIT],
+    q: Rule,
+    r: Rule,
+) -> [u8; LIMIT]
+    requires { ⌜ (isReference r ≡ true → q .steps ≤ 8) × ((doc : Doc) × Tree doc (now kind) (now name) (now parent) × Checked doc) ⌝ }
+    ensures { λ x. ⌜ ((doc : Doc) → Tree doc (now (kind .entry)) (now (name .entry)) (now (parent .entry)) → isReference r ≡ true → Marks (readsOwn doc q) (doc .size) x) ⌝ }
+{
+    if r.kind != 3 {
+        return own;
+    }
+    prepare::reads::mark_read(kind, name, parent, q)
+}
+
+// The change days of rule r, which refers to q if it is a reference, into a lent list.
+// Cost: three passes over the records, six for a reference, and two looks at each day of the period.
+fn changes_columns(
+    kind: &[u8],
+    name: &[u16],
+    parent: &[u16],
+    begin: &[u16],
+    end: &[u16],
+    q: Rule,
+    r: Rule,
+    out: &mut [u16],
+) -> Listed
+    requires { ⌜ (ruleFields r ≡ true) × (isReference r ≡ true → ruleFields q ≡ true) × ((doc : Doc) × Tree doc (now kind) (now name) (now parent) × Periods doc (now begin) (now end) × Checked doc) ⌝ }
+    ensures answer { λ x. ⌜ ((doc : Doc) → (p : Rule) → Tree doc (now (kind .entry)) (now (name .entry)) (now (parent .entry)) → Periods doc (now (begin .entry)) (now (end .entry)) → (isReference r ≡ true → p ≡ q) → x ≡ storing Accepted (changeDays doc p r) (now (out .entry))) ⌝ }
+    ensures lent { λ x. ⌜ ((doc : Doc) → (p : Rule) → Tree doc (now (kind .entry)) (now (name .entry)) (now (parent .entry)) → Periods doc (now (begin .entry)) (now (end .entry)) → (isReference r ≡ true → p ≡ q) → now (out .exit) ≡ lentAfter x (changeDays doc p r) (now (out .entry))) ⌝ }
+{
+    let own = prepare::reads::mark_read(kind, name, parent, r);
+    let referred = read_referred(kind, name, parent, own, q, r);
+    let days = changes::change_marks(&own, r.kind == 3, &referred, begin, end, r.begin);
+    marks::store_marked(&days, r.begin as usize, r.end as usize, out)
+}
+
+// The same over the first n entries of the columns.
+fn changes_front(
+    n: usize,
+    kind: &[u8],
+    name: &[u16],
+    parent: &[u16],
+    begin: &[u16],
+    end: &[u16],
+    q: Rule,
+    r: Rule,
+    out: &mut [u16],
+) -> Listed
+    requires { ⌜ (ruleFields r ≡ true) × (isReference r ≡ true → ruleFields q ≡ true) × Fronts n (now kind) (now name) (now parent) (now begin) (now end) ⌝ }
+    ensures answer { λ x. ⌜ ((doc : Doc) → (p : Rule) → Tree doc (take (n - 0) (now (kind .entry))) (take (n - 0) (now (name .entry))) (take (n - 0) (now (parent .entry))) → Periods doc (take (n - 0) (now (begin .entry))) (take (n - 0) (now (end .entry))) → (isReference r ≡ true → p ≡ q) → x ≡ storing Accepted (changeDays doc p r) (now (out .entry))) ⌝ }
+    ensures lent { λ x. ⌜ ((doc : Doc) → (p : Rule) → Tree doc (take (n - 0) (now (kind .entry))) (take (n - 0) (now (name .entry))) (take (n - 0) (now (parent .entry))) → Periods doc (take (n - 0) (now (begin .entry))) (take (n - 0) (now (end .entry))) → (isReference r ≡ true → p ≡ q) → now (out .exit) ≡ lentAfter x (changeDays doc p r) (now (out .entry))) ⌝ }
+{
+    changes_columns(
+        &kind[0..n],
+        &name[0..n],
+        &parent[0..n],
+        &begin[0..n],
+        &end[0..n],
+        q,
+        r,
+        out,
+    )
+}
+
+// The change days of rule k of an image: 21 to 26, then 11 where there is no such rule or it is not sequenced, then 12.
+pub fn changes_in_table(
+    n: usize,
+    kind: &[u8],
+    name: &[u16],
+    parent: &[u16],
+    begin: &[u16],
+    end: &[u16],
+    rules: &[u8],
+    k: usize,
+    out: &mut [u16],
+) -> Listed
+    requires { ⌜ Fronts n (now kind) (now name) (now parent) (now begin) (now end) ⌝ }
+    ensures answer { λ x. ⌜ ((doc : Doc) → Tree doc (take (n - 0) (now (kind .entry))) (take (n - 0) (now (name .entry))) (take (n - 0) (now (parent .entry))) → Periods doc (take (n - 0) (now (begin .entry))) (take (n - 0) (now (end .entry))) → x ≡ storing (readTurning (now (rules .entry)) k) (turningDays doc (now (rules .entry)) k) (now (out .entry))) ⌝ }
+    ensures lent { λ x. ⌜ ((doc : Doc) → Tree doc (take (n - 0) (now (kind .entry))) (take (n - 0) (now (name .entry))) (take (n - 0) (now (parent .entry))) → Periods doc (take (n - 0) (now (begin .entry))) (take (n - 0) (now (end .entry))) → now (out .exit) ≡ lentAfter x (turningDays doc (now (rules .entry)) k) (now (out .entry))) ⌝ }
+{
+    let read = rules::read_rules(rules);
+    match read {
+        Reading::Refused(number, place) => {
+            return Listed::Refused(number, place);
+        }
+        Reading::Accepted => {}
+    }
+    if rules::count_rules(rules) <= k {
+        return Listed::Refused(11, 0);
+    }
+    let r = rules::rule_at(rules, k);
+    if r.windowed != 0 {
+        return Listed::Refused(11, 0);
+    }
+    let q = rules::referred_rule(rules, k);
+    changes_front(n, kind, name, parent, begin, end, q, r, out)
+}

@@ -1,0 +1,8 @@
+-- The laws behind the passes that prepare a rule.
+pub mod Filling
+pub mod Climbing
+pub mod Holding
+pub mod Choosing
+pub mod Wanting
+pub mod Keying
+pub mod Skipping

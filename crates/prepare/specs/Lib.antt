@@ -1,0 +1,5 @@
+-- The definitions that the contracts cite.
+pub mod Holders
+pub mod Rows
+pub mod Keys
+pub mod Standing

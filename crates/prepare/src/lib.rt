@@ -1,0 +1,62 @@
+// A rule prepared over the columns of a document: what it selects, which versions it reads, and its rows.
+use document::LIMIT;
+use meaning::Rule;
+ghost use mathlib.Core.Path.{_≡_};
+ghost use Prim.Native.Nat.{_≤_};
+ghost use Rattle.meaning.specs.Document.{Doc};
+ghost use Rattle.meaning.specs.Select.{readsOwn};
+ghost use Rattle.document.specs.Lent.{Tree, Values, Checked};
+ghost use Rattle.marks.specs.Marks.{Marks};
+ghost use Rattle.prepare.specs.Rows.{Rows};
+
+pub mod select; // select.rt: the versions that a rule selects
+pub mod fields; // fields.rt: the version to which each field version belongs
+pub mod reads; // reads.rt: the versions that a rule reads
+pub mod rows; // rows.rt: the way along the selected versions, and their rows
+
+// The selected versions, from `start` on by `next`; the row of each, down from `last` by `lower`, counted from one, 0 for none; and a mark
+// on each version that the rule reads.
+pub struct Prepared {
+    pub start: usize,
+    pub next: [u16; LIMIT],
+    pub last: [u16; LIMIT],
+    pub lower: [u16; LIMIT],
+    pub read: [u8; LIMIT],
+}
+
+// A record's number out of a column, as an index. Cost: none.
+fn index(x: u16) -> usize
+    ensures { λ r. ⌜ r ≡ x ⌝ }
+{
+    x as usize
+}
+
+// The rule prepared. Cost: six passes over the records, one of them with a climb of at most eight steps from each version.
+pub fn prepare(
+    kind: &[u8],
+    vkind: &[u8],
+    name: &[u16],
+    parent: &[u16],
+    value: &[i32],
+    rule: Rule,
+) -> Prepared
+    requires { ⌜ (rule .steps ≤ 8) × ((doc : Doc) × Tree doc (now kind) (now name) (now parent) × Values doc (now kind) (now vkind) (now value) × Checked doc) ⌝ }
+    ensures rows { λ r. ⌜ ((doc : Doc) → Tree doc (now (kind .entry)) (now (name .entry)) (now (parent .entry)) → Values doc (now (kind .entry)) (now (vkind .entry)) (now (value .entry)) → Rows doc rule (r .start) (r .next) (r .last) (r .lower)) ⌝ }
+    ensures read { λ r. ⌜ ((doc : Doc) → Tree doc (now (kind .entry)) (now (name .entry)) (now (parent .entry)) → Marks (readsOwn doc rule) (doc .size) (r .read)) ⌝ }
+{
+    let chosen = select::mark_selected(kind, name, parent, rule);
+    let holder = fields::holders(kind, name, parent, rule);
+    let read = reads::mark_by(&chosen, &holder, kind.len());
+    let links = rows::link(kind, vkind, value, &chosen, &holder, rule);
+    let last = links.last;
+    let lower = links.lower;
+    let way = rows::way_along(&chosen, kind.len());
+    let next = way.next;
+    Prepared {
+        start: way.start,
+        next,
+        last,
+        lower,
+        read,
+    }
+}

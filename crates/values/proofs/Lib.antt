@@ -1,0 +1,4 @@
+-- The laws behind the representatives.
+pub mod Equals
+pub mod Keying
+pub mod Falling

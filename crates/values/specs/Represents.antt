@@ -1,0 +1,14 @@
+-- Representatives: for each version a record number, the same for two versions with a value exactly where the values are equal.
+use mathlib.Core.Path.{_≡_}
+use mathlib.Core.Bool.{true}
+use mathlib.Core.List.{List}
+use Prim.Native.Nat.{ℕ, _≤_, _<_}
+use lib.Dec.{eqb}
+use lib.ListN.{length, getD}
+use Rattle.meaning.specs.Document.{Doc, isVersion}
+use Rattle.meaning.specs.Select.{sameValue}
+
+pub record Represents (doc : Doc) (reps : List ℕ) : Type 0 where
+  pub room : doc .size ≤ length reps
+  pub low : (f : ℕ) → f < doc .size → getD reps f 0 < doc .size
+  pub same : (f g : ℕ) → isVersion doc f ≡ true → isVersion doc g ≡ true → sameValue doc f g ≡ eqb (getD reps f 0) (getD reps g 0)
