@@ -44,7 +44,7 @@ open-keeps false false false r q e = absurd (false≢true (sym e))
 open-keeps false false true r q e = refl
 
 -- one stamp more
-set-stamped : (t : ℕ) (stamps : List ℕ) (x : ℕ) → x < length stamps → (y : ℕ) → stamped t (set stamps x t) y ≡ (stamped t stamps y || eqb x y)
+pub set-stamped : (t : ℕ) (stamps : List ℕ) (x : ℕ) → x < length stamps → (y : ℕ) → stamped t (set stamps x t) y ≡ (stamped t stamps y || eqb x y)
 set-stamped t stamps x h y =
     ⊎-elim
     (λ i. let e : x ≡ y = eqb-true x y i in
@@ -52,7 +52,7 @@ set-stamped t stamps x h y =
     (λ i. rw (getD-set-other stamps x y t 0 (λ q. eqb-false x y i (sym q)), i) (sym (or-false (stamped t stamps y))))
     (went (eqb x y))
 
-set-up-to : (t : ℕ) (stamps : List ℕ) (x : ℕ) → x < length stamps → UpTo t stamps → UpTo t (set stamps x t)
+pub set-up-to : (t : ℕ) (stamps : List ℕ) (x : ℕ) → x < length stamps → UpTo t stamps → UpTo t (set stamps x t)
 set-up-to t stamps x h b y =
     ⊎-elim
     (λ i. rw (eqb-true y x i, getD-set-same stamps x t 0 h) (omega arith))

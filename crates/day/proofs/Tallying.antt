@@ -31,11 +31,11 @@ count-far f i (suc n) =
     let r′ : count f (suc i) (suc n) ≡ count f (suc i) n + cond (f (i + suc n)) 1 0 = r ∙ ap (λ x. count f (suc i) n + cond (f x) 1 0) e in
     ⊎-elim (λ y. rw y (omega arith)) (λ z. rw z r′) (went (f i))
 
-count-last : (f : ℕ → Bool) (n : ℕ) → count f 0 (suc n) ≡ count f 0 n + cond (f n) 1 0
+pub count-last : (f : ℕ → Bool) (n : ℕ) → count f 0 (suc n) ≡ count f 0 n + cond (f n) 1 0
 count-last f n = let e : 0 + n ≡ n = omega arith in rw e at (count-far f 0 n)
 
 -- a chain m has every number that passes f, so that nothing is passed over
-past-count : (m f : ℕ → Bool) → ((v : ℕ) → f v ≡ true → m v ≡ true) → (t : ℕ) → count f 0 (pastLast m t) ≡ count f 0 t
+pub past-count : (m f : ℕ → Bool) → ((v : ℕ) → f v ≡ true → m v ≡ true) → (t : ℕ) → count f 0 (pastLast m t) ≡ count f 0 t
 unfolding pastLast
 past-count m f all zero = refl
 past-count m f all (suc t) =

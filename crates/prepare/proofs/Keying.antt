@@ -68,7 +68,7 @@ module _ (doc : Doc) (r : Rule) (n : ℕ) (all : doc .size ≡ n) (few : n ≤ l
           c (ap (λ x. getD chosen x 0) q ∙ (simp says at (m .mark v l ∙ s .0 .0))))
 
 -- what `pastLast` counts is told by the numbers below t
-past-alike : (f g : ℕ → Bool) (t : ℕ) → ((k : ℕ) → k < t → f k ≡ g k) → pastLast f t ≡ pastLast g t
+pub past-alike : (f g : ℕ → Bool) (t : ℕ) → ((k : ℕ) → k < t → f k ≡ g k) → pastLast f t ≡ pastLast g t
 unfolding pastLast
 past-alike f g zero h = refl
 past-alike f g (suc t) h = rw (h t (omega arith), past-alike f g t (λ k l. h k (omega arith)))

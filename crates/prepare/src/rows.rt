@@ -59,7 +59,7 @@ fn key(chosen: &[u8], holder: &[u16], n: usize, wanted: bool, f: usize) -> u16
 }
 
 // The key of each record. Cost: one pass over the records.
-fn keys(vkind: &[u8], value: &[i32], chosen: &[u8], holder: &[u16], rule: Rule) -> [u16; LIMIT]
+pub fn keys(vkind: &[u8], value: &[i32], chosen: &[u8], holder: &[u16], rule: Rule) -> [u16; LIMIT]
     requires { ⌜ (length (now vkind) ≤ limit) × (length (now vkind) ≤ length (now value)) × (length (now vkind) ≤ length (now chosen)) × (length (now vkind) ≤ length (now holder)) ⌝ }
     ensures { λ r. ⌜ ((doc : Doc) → Lends (doc .size) (doc .vkind) 0 (now (vkind .entry)) → Lends (doc .size) (doc .value) (pos 0) (now (value .entry)) → Marks (selected doc rule) (doc .size) (now (chosen .entry)) → Holders doc rule (now (holder .entry)) → Keys doc rule r) ⌝ }
 {

@@ -1,0 +1,91 @@
+-- `counting::item::tally` meets its contract: for every row that the chain holds, the walk has come down to `at` and counted those above.
+use Prim.Native.Nat.{_-_, _<_}
+use mathlib.Core.Path.{_≡_, refl}
+use native.Mathlib.Omega.{arith}
+use borrow.Author.Needs.{needs}
+use lib.ListN.{length, getD}
+use Rattle.day.specs.Row.{UpTo}
+use Rattle.counting.specs.Number.{touches}
+use Rattle.counting.proofs.Weighing.{weighed-most}
+use Rattle.counting.proofs.Tallying.{Walked, walked-start, walked-less, walked-step, counted-end}
+use Rattle.counting.proofs.item.tally.Statement.{statement}
+use Rattle.counting.proofs.item.tally.Tie as tie
+
+abbrev Inv-loop : tie.InvT-loop
+Inv-loop begin end rep lower distinct from to past token seen₀ count₀ at₀ seen count at = (length seen ≡ length seen₀) × UpTo token seen × Walked (touches begin end from to) (length begin) (λ f. getD rep f 0) distinct token past lower at count seen
+
+abbrev μ-loop : tie.MeasureT-loop
+μ-loop begin end rep lower distinct from to past token seen₀ count₀ at₀ seen count at = at
+
+loop-holds : tie.Need-loop-holds Inv-loop μ-loop
+loop-holds c =
+    let p = c .before .before .before .before .before .pre in
+    (refl, λ y. omega (arith, p .2 y), walked-start _ _ _ _ _ _ _ (p .1) _ (p .2))
+
+sub-weigh : tie.Need-sub-weigh Inv-loop μ-loop
+sub-weigh c = search needs
+
+weigh-requires : tie.Need-weigh-requires Inv-loop μ-loop
+weigh-requires c κs =
+    let p = c .before .before .before .before .before .before .before .before .pre in
+    let s = c .before .before .loop in
+    let h = c .before .loop-test .taken in
+    let here : s .at - 1 < length (c .before .before .before .before .before .before .before .before .args .begin .now) = omega arith in
+    (here, p .0 .end-room, p .0 .rep-room, omega (arith, p .0 .rep-low (s .at - 1) here, p .0 .seen-room))
+
+add-count : tie.Need-add-count Inv-loop μ-loop
+add-count c = omega (arith, weighed-most _ _ _ _ _ _ _ (c .before .before .weigh .ensures))
+
+sub-index : tie.Need-sub-index Inv-loop μ-loop
+sub-index c = search needs
+
+mul-index : tie.Need-mul-index Inv-loop μ-loop
+mul-index c = search needs
+
+shared-slice-read-index : tie.Need-shared-slice-read-index Inv-loop μ-loop
+shared-slice-read-index c = search needs
+
+index-requires : tie.Need-index-requires Inv-loop μ-loop
+index-requires c κs = search needs
+
+loop-less : tie.Need-loop-less Inv-loop μ-loop
+loop-less c =
+    let p = c .before .before .before .before .before .before .before .before .before .before .before .before .before .pre in
+    let s = c .before .before .before .before .before .before .before .loop in
+    walked-less _ _ _ _ _ _ _ (p .1) _ _ _ (s .inv .2) (c .before .before .before .before .before .before .loop-test .taken) _ (c .index .ensures)
+
+loop-again : tie.Need-loop-again Inv-loop μ-loop
+loop-again c =
+    let p = c .before .before .before .before .before .before .before .before .before .before .before .before .before .pre in
+    let s = c .before .before .before .before .before .before .before .loop in
+    let h = c .before .before .before .before .before .before .loop-test .taken in
+    let w = c .before .before .before .before .weigh .ensures in
+    let here : s .at - 1 < length (c .before .before .before .before .before .before .before .before .before .before .before .before .before .args .begin .now) = omega arith in
+    (search needs, w .up-to (s .inv .1), walked-step _ _ _ _ _ _ _ (p .1) _ _ _ (s .inv .2) h _ (c .index .ensures) _ _ w (p .0 .rep-low (s .at - 1) here))
+
+same-length : tie.Need-same-length Inv-loop μ-loop
+same-length c = search needs
+
+returns : tie.Need-returns Inv-loop μ-loop
+returns c =
+    let s = c .before .loop in
+    (λ row ch. counted-end _ _ _ _ _ _ _ _ _ (s .inv .2 .1 row ch) (c .loop-test .left), s .inv .1)
+
+pub tally-spec : {M : Type 1} → statement M
+tally-spec =
+    tie.close
+    (tie.spec
+    Inv-loop
+    μ-loop
+    loop-holds
+    sub-weigh
+    weigh-requires
+    add-count
+    sub-index
+    mul-index
+    shared-slice-read-index
+    index-requires
+    loop-less
+    loop-again
+    same-length
+    returns)

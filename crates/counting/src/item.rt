@@ -1,0 +1,118 @@
+// One item number in a window: how many of its field versions, or of their values, are present, and whether that is out of range.
+use crate::index;
+use document::LIMIT;
+ghost use mathlib.Core.Path.{_≡_};
+ghost use mathlib.Core.Bool.{Bool};
+ghost use Prim.Native.Nat.{ℕ, _+_, _*_, _<_, _≤_};
+ghost use lib.ListN.{length, getD};
+ghost use Rattle.document.specs.Columns.{limit};
+ghost use Rattle.day.specs.Row.{Chain, UpTo};
+ghost use Rattle.counting.specs.Number.{touches, Room, Fits, Below, Weighed, numberIn, breaks, Met};
+
+// Whether version i shares a day with the window. Two looks.
+fn present(begin: &[u16], end: &[u16], from: u16, to: u16, i: usize) -> bool
+    requires { ⌜ (i < length (now begin)) × (length (now begin) ≤ length (now end)) ⌝ }
+    ensures { λ r. ⌜ r ≡ touches (now (begin .entry)) (now (end .entry)) from to i ⌝ }
+{
+    (begin[i] < to) & (from < end[i])
+}
+
+// How much field version f adds to the number: 1 where it is present and, if values are counted, its value has not the token yet. Its value
+// gets the token. Four looks.
+fn weigh(
+    begin: &[u16],
+    end: &[u16],
+    rep: &[u16],
+    distinct: bool,
+    from: u16,
+    to: u16,
+    f: usize,
+    token: u32,
+    seen: &mut [u32],
+) -> usize
+    requires { ⌜ (f < length (now begin)) × (length (now begin) ≤ length (now end)) × (length (now begin) ≤ length (now rep)) × (getD (now rep) f 0 < length (now seen)) ⌝ }
+    ensures { λ r. ⌜ Weighed (touches (now (begin .entry)) (now (end .entry)) from to f) (getD (now (rep .entry)) f 0) distinct token (now (seen .entry)) (now (seen .exit)) r ⌝ }
+{
+    if !present(begin, end, from, to, f) {
+        return 0;
+    }
+    let x = index(rep[f]);
+    if distinct & (seen[x] == token) {
+        return 0;
+    }
+    seen[x] = token;
+    1
+}
+
+// The number of those that are present, or of their values, in the chain that ends one below `past`; no value has the token before.
+// Cost: a look for each of the chain.
+fn tally(
+    begin: &[u16],
+    end: &[u16],
+    rep: &[u16],
+    lower: &[u16],
+    distinct: bool,
+    from: u16,
+    to: u16,
+    past: usize,
+    token: u32,
+    seen: &mut [u32],
+) -> usize
+    requires { ⌜ Room (length (now begin)) (now end) (now rep) (now lower) (now seen) × ((row : ℕ → Bool) × Chain row (length (now begin)) past (now lower)) × Below token (now seen) ⌝ }
+    ensures number { λ r. ⌜ ((row : ℕ → Bool) → Chain row (length (now (begin .entry))) past (now (lower .entry)) → r ≡ numberIn (touches (now (begin .entry)) (now (end .entry)) from to) (length (now (begin .entry))) (λ f. getD (now (rep .entry)) f 0) distinct row) ⌝ }
+    ensures tokens { λ r. ⌜ UpTo token (now (seen .exit)) ⌝ }
+{
+    let mut count: usize = 0;
+    let mut at = past;
+    while 0 < at {
+        let more = weigh(begin, end, rep, distinct, from, to, at - 1, token, seen);
+        count += more;
+        at = index(lower[at - 1]);
+    }
+    count
+}
+
+// The token of version v in window t, which no other version and no other window has. Cost: two operations.
+fn token(t: u16, v: usize) -> u32
+    requires { ⌜ v < limit ⌝ }
+    ensures { λ r. ⌜ r ≡ t * limit + v ⌝ }
+{
+    (t as u32) * (LIMIT as u32) + (v as u32)
+}
+
+// Whether the item number of version v is out of range, v being present and the first of it in window t. Cost: a look for each field version
+// of the item number.
+pub fn item_breaks(
+    begin: &[u16],
+    end: &[u16],
+    rep: &[u16],
+    group: &[u16],
+    last: &[u16],
+    lower: &[u16],
+    distinct: bool,
+    low: usize,
+    high: usize,
+    from: u16,
+    to: u16,
+    t: u16,
+    v: usize,
+    done: &mut [u16],
+    seen: &mut [u32],
+) -> bool
+    requires { ⌜ (v < length (now begin)) × Fits (length (now begin)) (now end) (now rep) (now group) (now last) (now lower) (now done) (now seen) × ((row : ℕ → Bool) × Chain row (length (now begin)) (getD (now last) (getD (now group) v 0) 0) (now lower)) × Below (t * limit + v) (now seen) ⌝ }
+    ensures met { λ r. ⌜ ((row : ℕ → Bool) → Chain row (length (now (begin .entry))) (getD (now (last .entry)) (getD (now (group .entry)) v 0) 0) (now (lower .entry)) → Met (touches (now (begin .entry)) (now (end .entry)) from to v) (breaks (touches (now (begin .entry)) (now (end .entry)) from to) (length (now (begin .entry))) (λ f. getD (now (rep .entry)) f 0) distinct low high row) (getD (now (group .entry)) v 0) t (now (done .entry)) (now (done .exit)) r) ⌝ }
+    ensures tokens { λ r. ⌜ UpTo (t * limit + v) (now (seen .exit)) ⌝ }
+{
+    if !present(begin, end, from, to, v) {
+        return false;
+    }
+    let g = index(group[v]);
+    if done[g] == t {
+        return false;
+    }
+    done[g] = t;
+    let past = index(last[g]);
+    let own = token(t, v);
+    let number = tally(begin, end, rep, lower, distinct, from, to, past, own, seen);
+    (number < low) | (high < number)
+}

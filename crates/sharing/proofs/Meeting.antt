@@ -1,0 +1,91 @@
+-- What is done with one row, a law for each way out of the code: the answer, and what is left in the columns.
+use mathlib.Core.Path.{_≡_, refl, sym, _∙_, ap}
+use mathlib.Core.Bool.{Bool, true, false, _&&_, _||_, cond, or-false}
+use mathlib.Core.List.{List}
+use Prim.Native.Nat.{ℕ, _≤_}
+use native.Mathlib.Omega.{arith}
+use lib.Dec.{eqb}
+use lib.ListN.{length, getD}
+use borrow.Author.Tests.{eq-eqb}
+use Rattle.meaning.proofs.Basics.{clear, or-l, or-r}
+use Rattle.day.specs.Row.{Fits, stamped}
+use Rattle.sharing.specs.Row.{foreign, asks, shows, lacking, Laid, Marked, Met, Room}
+
+pub room-of : (n : ℕ) (last lower ends reps stamps : List ℕ) → Fits n last lower ends reps stamps → (column : List ℕ) → n ≤ length column → Room n lower ends reps column
+room-of n last lower ends reps stamps s column h =
+    record {
+      lower-room = s .lower-room;
+      end-room = s .end-room;
+      rep-room = s .rep-room;
+      column-room = h;
+      rep-low = s .rep-low;
+    }
+
+-- an entry that is t or as it was
+seen-by : (t : ℕ) (b : Bool) (k : ℕ) → eqb (cond b t k) t ≡ (eqb k t || b)
+seen-by t true k = eq-eqb t t refl ∙ sym (or-r (eqb k t) true refl)
+seen-by t false k = sym (or-false (eqb k t))
+
+most-by : (t : ℕ) (b : Bool) (k : ℕ) → k ≤ t → cond b t k ≤ t
+most-by t true k h = omega arith
+most-by t false k h = h
+
+-- a test behind the presence of the version
+pub absent-test : (a b : Bool) → a ≡ false → false ≡ (a && b)
+absent-test a b e = rw e
+
+pub present-test : (a b c : Bool) → a ≡ true → c ≡ b → c ≡ (a && b)
+present-test a b c e i = rw e i
+
+module _ (p : ℕ → Bool) (n : ℕ) (rep : ℕ → ℕ) (row : ℕ → Bool) (v t : ℕ) (stamps : List ℕ) where
+  unstamped : (y : ℕ) → p v ≡ false → stamped t stamps y ≡ (stamped t stamps y || (p v && shows p n rep row y))
+  unstamped y e = rw e (sym (or-false (stamped t stamps y)))
+
+  -- the version is not present
+  pub marked-absent : p v ≡ false → Marked p n rep row v t stamps stamps
+  marked-absent e = record { seen = λ y. unstamped y e; up-to = λ h. h }
+
+  -- it is, and its values are stamped
+  pub marked-present : p v ≡ true → (stamps′ : List ℕ) → Laid p n rep row t stamps stamps′ → Marked p n rep row v t stamps stamps′
+  unfolding Laid
+  marked-present e stamps′ l =
+      record {
+        seen = λ y. ap (λ k. eqb k t) (l y) ∙ seen-by t (shows p n rep row y) (getD stamps y 0) ∙ rw e;
+        up-to = λ h y. rw (l y) (most-by t (shows p n rep row y) (getD stamps y 0) (h y));
+      }
+
+  module _ (needy : Bool) (class : ℕ) (owners : List ℕ) where
+    abbrev Ends : List ℕ → List ℕ → Bool → Type 0
+    Ends stamps′ owners′ answer = Met p n rep row needy v t class stamps owners stamps′ owners′ answer
+
+    pub met-absent : p v ≡ false → Ends stamps owners false
+    met-absent e =
+        record {
+          answers = absent-test (p v) (lacking p n rep row needy || asks p n rep row (foreign t stamps owners class)) e;
+          seen = λ _ y. unstamped y e;
+          owned = λ _ y. rw e;
+          up-to = λ h. h;
+        }
+
+    -- an answer that is yes says nothing of the columns
+    met-yes : true ≡ (p v && (lacking p n rep row needy || asks p n rep row (foreign t stamps owners class))) → Ends stamps owners true
+    met-yes i = record { answers = i; seen = λ z. absurd (clear refl z); owned = λ z. absurd (clear refl z); up-to = λ h. h }
+
+    module _ (e : p v ≡ true) where
+      pub met-lacking : (b : Bool) → b ≡ lacking p n rep row needy → b ≡ true → Ends stamps owners true
+      met-lacking b i y = met-yes (present-test (p v) _ true e (sym (or-l (lacking p n rep row needy) _ (sym i ∙ y))))
+
+      pub met-foreign : (b : Bool) → b ≡ asks p n rep row (foreign t stamps owners class) → b ≡ true → Ends stamps owners true
+      met-foreign b i y = met-yes (present-test (p v) _ true e (sym (or-r (lacking p n rep row needy) _ (sym i ∙ y))))
+
+      pub met-own : (b : Bool) → b ≡ lacking p n rep row needy → b ≡ false → (b′ : Bool) → b′ ≡ asks p n rep row (foreign t stamps owners class) → b′ ≡ false
+          → (stamps′ : List ℕ) → Laid p n rep row t stamps stamps′ → (owners′ : List ℕ) → Laid p n rep row class owners owners′ → Ends stamps′ owners′ false
+      unfolding Laid
+      met-own b i z b′ i′ z′ stamps′ l owners′ l′ =
+          let m = marked-present e stamps′ l in
+          record {
+            answers = present-test (p v) _ false e (rw (sym i ∙ z, sym i′ ∙ z′));
+            seen = λ _. m .seen;
+            owned = λ _ y. rw e (l′ y);
+            up-to = m .up-to;
+          }

@@ -1,0 +1,220 @@
+// One row of a rule in a window: what is asked of its present field versions, and what is written at their representatives.
+use crate::index;
+ghost use mathlib.Core.Path.{_≡_};
+ghost use mathlib.Core.Bool.{Bool, _&&_, not};
+ghost use Prim.Native.Nat.{ℕ, _<_, _≤_};
+ghost use lib.ListN.{length, getD};
+ghost use Rattle.day.specs.Row.{Chain, Fits, stamped};
+ghost use Rattle.sharing.specs.Row.{during, foreign, asks, lacking, Laid, Marked, Met, Room};
+
+// Whether version i shares a day with the window. Two looks.
+fn present(begin: &[u16], end: &[u16], from: u16, to: u16, i: usize) -> bool
+    requires { ⌜ (i < length (now begin)) × (length (now begin) ≤ length (now end)) ⌝ }
+    ensures { λ r. ⌜ r ≡ during (now (begin .entry)) (now (end .entry)) from to i ⌝ }
+{
+    (begin[i] < to) & (from < end[i])
+}
+
+// Whether a value is asked for and the row that ends one below `past` has none. Cost: at most a look for each of the row.
+fn lacks(
+    needy: bool,
+    begin: &[u16],
+    end: &[u16],
+    lower: &[u16],
+    from: u16,
+    to: u16,
+    past: usize,
+) -> bool
+    requires rooms { ⌜ (length (now begin) ≤ length (now end)) × (length (now begin) ≤ length (now lower)) ⌝ }
+    requires chain { ⌜ ((row : ℕ → Bool) × Chain row (length (now begin)) past (now lower)) ⌝ }
+    ensures { λ r. ⌜ ((row : ℕ → Bool) → (rep : ℕ → ℕ) → Chain row (length (now (begin .entry))) past (now (lower .entry)) → r ≡ lacking (during (now (begin .entry)) (now (end .entry)) from to) (length (now (begin .entry))) rep row needy) ⌝ }
+{
+    if !needy {
+        return false;
+    }
+    let mut at = past;
+    while 0 < at {
+        if present(begin, end, from, to, at - 1) {
+            return false;
+        }
+        at = index(lower[at - 1]);
+    }
+    true
+}
+
+// Whether a value of the row is held by another class than `class`. Cost: at most a look for each of the row.
+fn held_by_others(
+    begin: &[u16],
+    end: &[u16],
+    lower: &[u16],
+    rep: &[u16],
+    from: u16,
+    to: u16,
+    past: usize,
+    t: u16,
+    stamp: &[u16],
+    owner: &[u16],
+    class: u16,
+) -> bool
+    requires rooms { ⌜ Room (length (now begin)) (now lower) (now end) (now rep) (now stamp) × (length (now begin) ≤ length (now owner)) ⌝ }
+    requires chain { ⌜ ((row : ℕ → Bool) × Chain row (length (now begin)) past (now lower)) ⌝ }
+    ensures { λ r. ⌜ ((row : ℕ → Bool) → Chain row (length (now (begin .entry))) past (now (lower .entry)) → r ≡ asks (during (now (begin .entry)) (now (end .entry)) from to) (length (now (begin .entry))) (λ f. getD (now (rep .entry)) f 0) row (foreign t (now (stamp .entry)) (now (owner .entry)) class)) ⌝ }
+{
+    let mut at = past;
+    while 0 < at {
+        let x = index(rep[at - 1]);
+        let other = (stamp[x] == t) & (owner[x] != class);
+        if present(begin, end, from, to, at - 1) & other {
+            return true;
+        }
+        at = index(lower[at - 1]);
+    }
+    false
+}
+
+// Whether a value of the row is not stamped t. Cost: at most a look for each of the row.
+fn has_unstamped(
+    begin: &[u16],
+    end: &[u16],
+    lower: &[u16],
+    rep: &[u16],
+    from: u16,
+    to: u16,
+    past: usize,
+    t: u16,
+    stamp: &[u16],
+) -> bool
+    requires rooms { ⌜ Room (length (now begin)) (now lower) (now end) (now rep) (now stamp) ⌝ }
+    requires chain { ⌜ ((row : ℕ → Bool) × Chain row (length (now begin)) past (now lower)) ⌝ }
+    ensures { λ r. ⌜ ((row : ℕ → Bool) → Chain row (length (now (begin .entry))) past (now (lower .entry)) → r ≡ asks (during (now (begin .entry)) (now (end .entry)) from to) (length (now (begin .entry))) (λ f. getD (now (rep .entry)) f 0) row (λ x. not (stamped t (now (stamp .entry)) x))) ⌝ }
+{
+    let mut at = past;
+    while 0 < at {
+        let x = index(rep[at - 1]);
+        if present(begin, end, from, to, at - 1) & (stamp[x] != t) {
+            return true;
+        }
+        at = index(lower[at - 1]);
+    }
+    false
+}
+
+// Writes x at the representative of each present one of the row. Cost: a look for each of the row.
+fn lay(
+    begin: &[u16],
+    end: &[u16],
+    lower: &[u16],
+    rep: &[u16],
+    from: u16,
+    to: u16,
+    past: usize,
+    x: u16,
+    column: &mut [u16],
+)
+    requires rooms { ⌜ Room (length (now begin)) (now lower) (now end) (now rep) (now column) ⌝ }
+    requires chain { ⌜ ((row : ℕ → Bool) × Chain row (length (now begin)) past (now lower)) ⌝ }
+    ensures { λ r. ⌜ ((row : ℕ → Bool) → Chain row (length (now (begin .entry))) past (now (lower .entry)) → Laid (during (now (begin .entry)) (now (end .entry)) from to) (length (now (begin .entry))) (λ f. getD (now (rep .entry)) f 0) row x (now (column .entry)) (now (column .exit))) ⌝ }
+{
+    let mut at = past;
+    while 0 < at {
+        if present(begin, end, from, to, at - 1) {
+            let y = index(rep[at - 1]);
+            column[y] = x;
+        }
+        at = index(lower[at - 1]);
+    }
+}
+
+// Stamps the values of the row of version v. Cost: a look for each of the row, none where v is not present.
+pub fn stamp_row(
+    last: &[u16],
+    lower: &[u16],
+    begin: &[u16],
+    end: &[u16],
+    rep: &[u16],
+    from: u16,
+    to: u16,
+    v: usize,
+    t: u16,
+    stamp: &mut [u16],
+)
+    requires rooms { ⌜ (v < length (now begin)) × Fits (length (now begin)) (now last) (now lower) (now end) (now rep) (now stamp) ⌝ }
+    requires chain { ⌜ ((row : ℕ → Bool) × Chain row (length (now begin)) (getD (now last) v 0) (now lower)) ⌝ }
+    ensures { λ r. ⌜ ((row : ℕ → Bool) → Chain row (length (now (begin .entry))) (getD (now (last .entry)) v 0) (now (lower .entry)) → Marked (during (now (begin .entry)) (now (end .entry)) from to) (length (now (begin .entry))) (λ f. getD (now (rep .entry)) f 0) row v t (now (stamp .entry)) (now (stamp .exit))) ⌝ }
+{
+    if present(begin, end, from, to, v) {
+        lay(begin, end, lower, rep, from, to, index(last[v]), t, stamp);
+    }
+}
+
+// Whether version v is present and has a value that is not stamped. Cost: a look for each of the row, none where v is not present.
+pub fn row_misses(
+    last: &[u16],
+    lower: &[u16],
+    begin: &[u16],
+    end: &[u16],
+    rep: &[u16],
+    from: u16,
+    to: u16,
+    v: usize,
+    t: u16,
+    stamp: &[u16],
+) -> bool
+    requires rooms { ⌜ (v < length (now begin)) × Fits (length (now begin)) (now last) (now lower) (now end) (now rep) (now stamp) ⌝ }
+    requires chain { ⌜ ((row : ℕ → Bool) × Chain row (length (now begin)) (getD (now last) v 0) (now lower)) ⌝ }
+    ensures { λ r. ⌜ ((row : ℕ → Bool) → Chain row (length (now (begin .entry))) (getD (now (last .entry)) v 0) (now (lower .entry)) → r ≡ (during (now (begin .entry)) (now (end .entry)) from to v && asks (during (now (begin .entry)) (now (end .entry)) from to) (length (now (begin .entry))) (λ f. getD (now (rep .entry)) f 0) row (λ x. not (stamped t (now (stamp .entry)) x)))) ⌝ }
+{
+    if !present(begin, end, from, to, v) {
+        return false;
+    }
+    has_unstamped(begin, end, lower, rep, from, to, index(last[v]), t, stamp)
+}
+
+// Whether the row of version v lacks a value or has one of another class; where not, its values are stamped and its class owns them.
+// Cost: a few looks for each of the row, none where v is not present.
+pub fn row_shares(
+    last: &[u16],
+    lower: &[u16],
+    begin: &[u16],
+    end: &[u16],
+    rep: &[u16],
+    group: &[u16],
+    needy: bool,
+    from: u16,
+    to: u16,
+    v: usize,
+    t: u16,
+    stamp: &mut [u16],
+    owner: &mut [u16],
+) -> bool
+    requires rooms { ⌜ (v < length (now begin)) × Fits (length (now begin)) (now last) (now lower) (now end) (now rep) (now stamp) × (length (now begin) ≤ length (now group)) × (length (now begin) ≤ length (now owner)) ⌝ }
+    requires chain { ⌜ ((row : ℕ → Bool) × Chain row (length (now begin)) (getD (now last) v 0) (now lower)) ⌝ }
+    ensures { λ r. ⌜ ((row : ℕ → Bool) → Chain row (length (now (begin .entry))) (getD (now (last .entry)) v 0) (now (lower .entry)) → Met (during (now (begin .entry)) (now (end .entry)) from to) (length (now (begin .entry))) (λ f. getD (now (rep .entry)) f 0) row needy v t (getD (now (group .entry)) v 0) (now (stamp .entry)) (now (owner .entry)) (now (stamp .exit)) (now (owner .exit)) r) ⌝ }
+{
+    if !present(begin, end, from, to, v) {
+        return false;
+    }
+    let past = index(last[v]);
+    if lacks(needy, begin, end, lower, from, to, past) {
+        return true;
+    }
+    let class = group[v];
+    if held_by_others(
+        begin,
+        end,
+        lower,
+        rep,
+        from,
+        to,
+        past,
+        t,
+        stamp,
+        owner,
+        class,
+    ) {
+        return true;
+    }
+    lay(begin, end, lower, rep, from, to, past, t, stamp);
+    lay(begin, end, lower, rep, from, to, past, class, owner);
+    false
+}

@@ -1,0 +1,99 @@
+-- The field versions under an item number: in a window they are those of the group that meet it, for a field version lies within its selected version.
+use mathlib.Core.Path.{_≡_, refl, sym, _∙_, ap}
+use mathlib.Core.Logic.{⊎-elim}
+use mathlib.Core.Bool.{Bool, true, false, _&&_, and-true, and-false}
+use Prim.Native.Nat.{ℕ, _≤_, _<_}
+use native.Mathlib.Omega.{arith}
+use lib.Dec.{eqb}
+use borrow.Author.Tests.{eqb-true}
+use Rattle.meaning.specs.declared.Rule.{Rule}
+use Rattle.meaning.specs.Walk.{any}
+use Rattle.meaning.specs.Document.{Doc, isVersion, numberOf, above}
+use Rattle.meaning.specs.Rules.{isSequenced}
+use Rattle.meaning.specs.Select.{selected, fieldOf, valued, present, gives}
+use Rattle.meaning.specs.Window.{Window, meets, under}
+use Rattle.meaning.proofs.Basics.{went, tests-same}
+use Rattle.meaning.proofs.Walks.{any-none, any-same, any-true}
+use Rattle.meaning.proofs.Says.{says}
+use Rattle.meaning.proofs.Selects.{selected-version, selected-here, field-version, version-here}
+use Rattle.meaning.proofs.Sound.{Version, Sound}
+use Rattle.meaning.proofs.Accepted.{periods, accepted-sound}
+use Rattle.document.specs.Lent.{Checked}
+use Rattle.prepare.specs.Rows.{wants, inRow}
+use Rattle.groups.specs.Groups.{inGroup}
+
+-- a test that hangs on no number, out of a walk
+pub any-and : (t : ℕ → Bool) (b : Bool) (n : ℕ) → any (λ k. t k && b) 0 n ≡ (any t 0 n && b)
+any-and t true n = any-same (λ k. t k && true) t 0 n (λ k a l. and-true (t k)) ∙ sym (and-true (any t 0 n))
+any-and t false n = any-none (λ k. t k && false) 0 n (λ k a l. and-false (t k)) ∙ sym (and-false (any t 0 n))
+
+module _ (doc : Doc) (r : Rule) where
+  pub row-version : (v f : ℕ) → inRow doc r v f ≡ true → isVersion doc f ≡ true
+  unfolding inRow
+  row-version v f e = let s = simp says at e in field-version doc r v f (s .0 .0) (s .0 .1)
+
+  pub group-version : (n f : ℕ) → inGroup doc r n f ≡ true → isVersion doc f ≡ true
+  unfolding inGroup
+  group-version n f e = let k = any-true (λ v. inRow doc r v f && eqb (numberOf doc v) n) 0 (doc .size) e in row-version (k .0) f ((simp says at (k .1 .passes)) .0)
+
+  pub row-selected : (v f : ℕ) → inRow doc r v f ≡ true → selected doc r v ≡ true
+  unfolding inRow
+  row-selected v f e = (simp says at e) .0 .0
+
+  -- where the selected version of each present field version is present
+  module _ (flat : isSequenced r ≡ false) (p : ℕ → Bool) (held : (v f : ℕ) → inRow doc r v f ≡ true → p f ≡ true → p v ≡ true) where
+    pub row-present : (v f : ℕ) → present doc p r v && gives doc p r v f ≡ (inRow doc r v f && p f)
+    unfolding present gives inRow wants
+    row-present v f =
+        tests-same (present doc p r v && gives doc p r v f) (inRow doc r v f && p f)
+        (λ e. let s = simp says at e in rw flat (simp says (((s .0 .0, s .1 .0 .0), s .1 .1), s .1 .0 .1)))
+        (λ e.
+        let s = simp says at e in
+        let w : valued doc f ≡ true = rw flat at (s .0 .1) in
+        simp says ((s .0 .0 .0, held v f (simp says (s .0)) (s .1)), ((s .0 .0 .1, s .1), w)))
+
+    pub under-group : (n f : ℕ) → under doc p r n f ≡ (inGroup doc r n f && p f)
+    unfolding under inGroup
+    under-group n f =
+        any-same _ (λ v. (inRow doc r v f && eqb (numberOf doc v) n) && p f) 0 (doc .size)
+        (λ v a l. ap (λ b. b && eqb (numberOf doc v) n) (row-present v f) ∙ turn (inRow doc r v f) (p f) (eqb (numberOf doc v) n))
+        ∙ any-and (λ v. inRow doc r v f && eqb (numberOf doc v) n) (p f) (doc .size)
+      where
+        turn : (a b c : Bool) → (a && b) && c ≡ ((a && c) && b)
+        turn false b c = refl
+        turn true true c = sym (and-true c)
+        turn true false c = sym (and-false c)
+
+-- an accepted document
+module _ (doc : Doc) (r : Rule) (ok : Checked doc) where
+  sound : Sound doc
+  sound = accepted-sound doc (ok .accepted)
+
+  -- a version has a period
+  pub lasting : (v : ℕ) → isVersion doc v ≡ true → doc .begin v < doc .end v
+  lasting v e = periods doc (sound .records) v (record { here = version-here doc v e; kind = eqb-true (doc .kind v) 2 e; of = refl })
+
+  -- a field version lies within its selected version
+  within-row : (v f : ℕ) → inRow doc r v f ≡ true → (doc .begin v ≤ doc .begin f) × (doc .end f ≤ doc .end v)
+  unfolding inRow fieldOf
+  within-row v f e =
+      let s = simp says at e in
+      let here : v < doc .size = selected-here doc r v (s .0 .0) in
+      ⊎-elim
+      (λ (y : eqb (r .field) 0 ≡ true). let q : f ≡ v = eqb-true f v (rw y at (s .0 .1)) in rw q (omega arith, omega arith))
+      (λ z.
+      let t = simp says at (rw z at (s .0 .1)) in
+      let up : above doc f ≡ v = t .1 in
+      let not-root : doc .parent f ≡ 0 → ⊥ = λ q. let b : above doc f ≡ 65535 = ap (doc .parent) q ∙ sound .records .root-parent (omega arith) in omega (arith, ok .few) in
+      let w : Version doc (doc .parent f) f = record { here = version-here doc f (row-version doc r v f e); kind = t .0 .0; of = refl } in
+      rw (sym up) (sound .placed .after (doc .parent f) f (omega arith) w, sound .placed .before (doc .parent f) f (omega arith) w))
+      (went (eqb (r .field) 0))
+
+  -- so it meets no window that the selected version does not meet
+  pub meets-row : (w : Window) (v f : ℕ) → inRow doc r v f ≡ true → meets doc w f ≡ true → meets doc w v ≡ true
+  unfolding meets
+  meets-row w v f e t =
+      let s = simp says at t in
+      let i = within-row v f e in
+      let k : isVersion doc v ≡ true = selected-version doc r v (row-selected doc r v f e) in
+      simp says ((simp says at k, omega (arith, i .0)), omega (arith, i .1))

@@ -1,0 +1,6 @@
+-- The laws behind the offender of one window of a datatype rule.
+pub mod Rising
+pub mod Grouping
+pub mod Windowed
+pub mod Reached
+pub mod Skipping

@@ -1,0 +1,158 @@
+// The lowest offender of one window, for a non-sequenced datatype rule: how far back a window must reach for each field version to offend,
+// worked out once for the rule, and a walk over those that can offend.
+use document::LIMIT;
+use meaning::Found;
+ghost use mathlib.Core.Path.{_≡_};
+ghost use mathlib.Core.Bool.{false};
+ghost use Prim.Native.Nat.{ℕ, _<_, _≤_};
+ghost use lib.Dec.{eqb, ltb};
+ghost use lib.ListN.{length, getD};
+ghost use Rattle.meaning.specs.declared.Rule.{Rule};
+ghost use Rattle.meaning.specs.Walk.{first};
+ghost use Rattle.meaning.specs.Document.{Doc};
+ghost use Rattle.meaning.specs.Rules.{isSequenced};
+ghost use Rattle.meaning.specs.Window.{Window, meets, offendsIn};
+ghost use Rattle.document.specs.Columns.{limit};
+ghost use Rattle.document.specs.Lent.{Periods, Checked};
+ghost use Rattle.marks.specs.Marks.{Marks};
+ghost use Rattle.prepare.specs.Holders.{Skips};
+ghost use Rattle.steps.specs.Reaching.{wrongAfter, Reaches, Ready};
+
+mod walks; // walks.rt: two walks down the field versions under one item number
+
+// What stands for the reach of a value that is no number: it is wrong in every window.
+const EVER: u16 = 65535;
+
+// A record's number out of a column, as an index. Cost: none.
+fn index(x: u16) -> usize
+    ensures { λ r. ⌜ r ≡ x ⌝ }
+{
+    x as usize
+}
+
+// The day before which a window must begin for record f to offend, 0 where none can. Cost: two looks for each field version under its item number.
+fn reach_of(
+    vkind: &[u8],
+    value: &[i32],
+    begin: &[u16],
+    end: &[u16],
+    key: &[u16],
+    group: &[u16],
+    last: &[u16],
+    lower: &[u16],
+    low: i32,
+    high: i32,
+    f: usize,
+) -> u16
+    requires { ⌜ (f < length (now vkind)) × ((doc : Doc) × (r : Rule) × Ready doc r (now vkind) (now value) (now begin) (now end) (now key) (now group) (now last) (now lower) × Checked doc) ⌝ }
+    ensures { λ x. ⌜ ((doc : Doc) (r : Rule) → Ready doc r (now (vkind .entry)) (now (value .entry)) (now (begin .entry)) (now (end .entry)) (now (key .entry)) (now (group .entry)) (now (last .entry)) (now (lower .entry)) → Checked doc → isSequenced r ≡ false → low ≡ r .low → high ≡ r .high → (a : ℕ) → a ≤ 36524 → ltb a x ≡ wrongAfter doc r f a) ⌝ }
+{
+    let v = index(key[f]);
+    if vkind.len() <= v {
+        return 0;
+    }
+    if vkind[f] != 1 {
+        return EVER;
+    }
+    let past = index(last[index(group[v])]);
+    let day = begin[f];
+    let bar = walks::latest_begin(begin, end, lower, past, day);
+    walks::latest_wrong(
+        vkind,
+        value,
+        end,
+        lower,
+        past,
+        day,
+        bar,
+        value[f],
+        low,
+        high,
+    )
+}
+
+// The day before which a window must begin for each record to offend. Cost: one pass over the records, with two looks for each field version
+// at those under its item number.
+pub fn reaches(
+    vkind: &[u8],
+    value: &[i32],
+    begin: &[u16],
+    end: &[u16],
+    key: &[u16],
+    group: &[u16],
+    last: &[u16],
+    lower: &[u16],
+    low: i32,
+    high: i32,
+) -> [u16; LIMIT]
+    requires { ⌜ ((doc : Doc) × (r : Rule) × Ready doc r (now vkind) (now value) (now begin) (now end) (now key) (now group) (now last) (now lower) × Checked doc) ⌝ }
+    ensures { λ x. ⌜ ((doc : Doc) (r : Rule) → Ready doc r (now (vkind .entry)) (now (value .entry)) (now (begin .entry)) (now (end .entry)) (now (key .entry)) (now (group .entry)) (now (last .entry)) (now (lower .entry)) → Checked doc → isSequenced r ≡ false → low ≡ r .low → high ≡ r .high → Reaches doc r x) ⌝ }
+{
+    let mut out = [0u16; LIMIT];
+    let mut f = 0;
+    while f < vkind.len() {
+        out[f] = reach_of(
+            vkind,
+            value,
+            begin,
+            end,
+            key,
+            group,
+            last,
+            lower,
+            low,
+            high,
+            f,
+        );
+        f += 1;
+    }
+    out
+}
+
+// The mark of a reach: 1 above 0. Cost: one test.
+fn reaching(x: u16) -> u8
+    ensures { λ r. ⌜ eqb r 1 ≡ ltb 0 x ⌝ }
+{
+    if 0 < x {
+        return 1;
+    }
+    0
+}
+
+// A mark on each of n records that can offend at all. Cost: one pass over the records.
+pub fn mark_reaching(reach: &[u16], n: usize) -> [u8; LIMIT]
+    requires { ⌜ (n ≤ limit) × (n ≤ length (now reach)) ⌝ }
+    ensures { λ r. ⌜ Marks (λ f. ltb 0 (getD (now (reach .entry)) f 0)) n r ⌝ }
+{
+    let mut marks = [0u8; LIMIT];
+    let mut i = 0;
+    while i < n {
+        marks[i] = reaching(reach[i]);
+        i += 1;
+    }
+    marks
+}
+
+// The lowest offender of the window that begins on day `from` and ends before day `to`. Cost: a look for each field version that can offend.
+pub fn stepped_in(
+    start: usize,
+    next: &[u16],
+    begin: &[u16],
+    end: &[u16],
+    reach: &[u16],
+    from: u16,
+    to: u16,
+) -> Found
+    requires rooms { ⌜ (length (now begin) ≤ length (now end)) × (length (now begin) ≤ length (now reach)) ⌝ }
+    requires way { ⌜ Skips (λ f. ltb 0 (getD (now reach) f 0)) (length (now begin)) start (now next) ⌝ }
+    ensures { λ x. ⌜ ((doc : Doc) (q r : Rule) (w : Window) → Periods doc (now (begin .entry)) (now (end .entry)) → Reaches doc r (now (reach .entry)) → Checked doc → isSequenced r ≡ false → r .kind ≡ 5 → w .from ≡ from → w .to ≡ to → from ≤ 36524 → x ≡ first (offendsIn doc (meets doc w) q r) 0 (doc .size)) ⌝ }
+{
+    let mut f = start;
+    while f < begin.len() {
+        if (begin[f] < to) & (from < end[f]) & (from < reach[f]) {
+            return Found::At(f);
+        }
+        f = index(next[f]);
+    }
+    Found::Nothing
+}
