@@ -1218,14 +1218,14 @@ const MONTH_STARTS: [u16; 1201] = [
 ];
 
 // The table in memory. A constant is laid out anew wherever it is read, so each public function has it laid out once, here, and lends it on.
-fn starts() -> [u16; 1201]
+pub fn starts() -> [u16; 1201]
     ensures { λ r. ⌜ MonthTable r ⌝ }
 {
     MONTH_STARTS
 }
 
 // Entry k of the table, and past the last entry that one.
-fn entry(table: &[u16; 1201], k: usize) -> u16
+pub fn entry(table: &[u16; 1201], k: usize) -> u16
     requires { ⌜ MonthTable (now table) ⌝ }
     ensures { λ r. ⌜ r ≡ monthStart k ⌝ }
 {
@@ -1237,7 +1237,7 @@ fn entry(table: &[u16; 1201], k: usize) -> u16
 
 // The month that starts on the day, looked up in the table. A month has at most 31 days, so every month before number `day / 31` starts
 // before the day; and after the first start that lies past the day all others do too. So some twenty entries are read, not 1,201.
-fn month_in(table: &[u16; 1201], day: u16) -> Month
+pub fn month_in(table: &[u16; 1201], day: u16) -> Month
     requires { ⌜ MonthTable (now table) ⌝ }
     ensures { λ r. ⌜ r ≡ monthOn day ⌝ }
 {

@@ -5,3 +5,4 @@ pub mod Skipping
 pub mod Walking
 pub mod Single
 pub mod Offence
+pub mod Termwise

@@ -16,6 +16,7 @@ ghost use Rattle.day.specs.Row.{lasts, UpTo, stamped};
 ghost use Rattle.day.specs.Table.{holder, rowOffends};
 
 mod row; // row.rt: one row of a rule on a day
+pub mod terms; // terms.rt: how a rule of each kind counts
 
 // What becomes of a row with one value: nothing, it must be no lower row's, or it must be a referred row's.
 pub const COUNTED: u8 = 0;

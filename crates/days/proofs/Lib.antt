@@ -1,4 +1,3 @@
 -- The laws behind the verdict on days.
-pub mod Termwise
 pub mod Walking
 pub mod Settling

@@ -18,8 +18,6 @@ ghost use Rattle.marks.specs.Marks.{marked};
 ghost use Rattle.values.specs.Represents.{Represents};
 ghost use Rattle.days.specs.Judging.{Walkable, Posed, offenderAlive, Rowed, Settled};
 
-mod terms; // terms.rt: how a rule of each kind counts
-
 // The first of the marked days from `from` on and below `to` that has an offender, with its lowest one and how many days were looked at.
 // Cost: a look at each day of the stretch, and for each marked one a look for each selected version and each of its wanted field versions.
 fn walk(
@@ -84,7 +82,7 @@ fn judge(own: Prepared, held: Prepared, begin: &[u16], end: &[u16], rep: &[u16],
     let read = own.read;
     let held_read = held.read;
     let days = changes::change_marks(&read, r.kind == 3, &held_read, begin, end, r.begin);
-    let bounds = terms::terms(r);
+    let bounds = day::terms::terms(r);
     let next = own.next;
     let last = own.last;
     let lower = own.lower;

@@ -1,8 +1,8 @@
--- `days::terms::terms` meets its contract: one way out for each kind.
-use Rattle.days.proofs.Termwise.{key-terms, unique-terms, reference-terms, datatype-terms}
+-- `day::terms::terms` meets its contract: one way out for each kind.
+use Rattle.day.proofs.Termwise.{key-terms, unique-terms, reference-terms, datatype-terms}
 use borrow.Author.Needs.{needs}
-use Rattle.days.proofs.terms.terms.Statement.{statement}
-use Rattle.days.proofs.terms.terms.Tie as tie
+use Rattle.day.proofs.terms.terms.Statement.{statement}
+use Rattle.day.proofs.terms.terms.Tie as tie
 
 returns : tie.Need-returns
 returns c = key-terms _ (c .if1 .taken)

@@ -1,12 +1,12 @@
--- `days::terms::own_bounds` meets its contract.
+-- `day::terms::own_bounds` meets its contract.
 use Prim.Native.Nat.{_≤_}
 use mathlib.Core.Path.{_≡_}
 use lib.Signed.{mag}
 use Rattle.numbers.proofs.Callers.{signs}
-use Rattle.days.proofs.Termwise.{cardinality-terms}
+use Rattle.day.proofs.Termwise.{cardinality-terms}
 use borrow.Author.Needs.{needs}
-use Rattle.days.proofs.terms.own_bounds.Statement.{statement}
-use Rattle.days.proofs.terms.own_bounds.Tie as tie
+use Rattle.day.proofs.terms.own_bounds.Statement.{statement}
+use Rattle.day.proofs.terms.own_bounds.Tie as tie
 
 magnitude-requires : tie.Need-magnitude-requires
 magnitude-requires c κs = search needs
