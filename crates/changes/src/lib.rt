@@ -1,4 +1,5 @@
 // The change days of a rule, as marks on days.
+use numbers::index;
 ghost use mathlib.Core.Path.{_≡_};
 ghost use mathlib.Core.Bool.{Bool, true, _&&_};
 ghost use Prim.Native.Nat.{ℕ, _≤_, _<_};
@@ -14,13 +15,6 @@ ghost use Rattle.changes.specs.Turned.{Datable, Added, Turned};
 
 // How many days there are to mark: every day of a period, and the one after the last, on which a version may end.
 pub const DAYS: usize = 36526;
-
-// A day out of a column, as an index.
-fn index(x: u16) -> usize
-    ensures { λ r. ⌜ r ≡ x ⌝ }
-{
-    x as usize
-}
 
 // Marks the days on which a record begins and ends, if it is read.
 fn mark_record(read: u8, begin: u16, end: u16, days: &mut [u8])

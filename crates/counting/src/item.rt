@@ -1,6 +1,6 @@
 // One item number in a window: how many of its field versions, or of their values, are present, and whether that is out of range.
-use crate::index;
 use document::LIMIT;
+use numbers::index;
 ghost use mathlib.Core.Path.{_≡_};
 ghost use mathlib.Core.Bool.{Bool};
 ghost use Prim.Native.Nat.{ℕ, _+_, _*_, _<_, _≤_};

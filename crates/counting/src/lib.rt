@@ -1,5 +1,6 @@
 // The lowest offender of one window, for a non-sequenced cardinality rule.
 use meaning::Found;
+use numbers::index;
 ghost use mathlib.Core.Path.{_≡_};
 ghost use Prim.Native.Nat.{ℕ, _+_, _*_, _<_};
 ghost use lib.ListN.{getD};
@@ -12,13 +13,6 @@ ghost use Rattle.day.specs.Ready.{Stamps};
 ghost use Rattle.counting.specs.Ready.{Ready, Terms};
 
 mod item; // item.rt: one item number in a window
-
-// A record's number out of a column, as an index.
-fn index(x: u16) -> usize
-    ensures { λ r. ⌜ r ≡ x ⌝ }
-{
-    x as usize
-}
 
 // The lowest version that offends in the window from `from` up to, not including, `to`, the window's number being t; `done` has t for each
 // class that was counted in it, and `seen` a token of it for each value.

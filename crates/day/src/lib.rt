@@ -1,5 +1,6 @@
 // The lowest offender of one day, for a sequenced rule of any kind.
 use meaning::Found;
+use numbers::index;
 ghost use mathlib.Core.Path.{_≡_};
 ghost use mathlib.Core.Bool.{true};
 ghost use Prim.Native.Nat.{ℕ, _+_, _<_, _≤_};
@@ -24,13 +25,6 @@ pub const COUNTED: u8 = 0;
 pub const DISTINCT: u8 = 1;
 
 pub const REFERRING: u8 = 2;
-
-// A record's number out of a column, as an index.
-fn index(x: u16) -> usize
-    ensures { λ r. ⌜ r ≡ x ⌝ }
-{
-    x as usize
-}
 
 // Stamps the only value of each row. Cost: a look for each selected version and each of its wanted field versions.
 fn stamp_rows(

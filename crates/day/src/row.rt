@@ -1,7 +1,7 @@
 // One row of a rule on a day: how many of its field versions are present, and whether it offends.
 use crate::COUNTED;
 use crate::REFERRING;
-use crate::index;
+use numbers::index;
 ghost use mathlib.Core.Path.{_≡_};
 ghost use mathlib.Core.Bool.{Bool};
 ghost use Prim.Native.Nat.{ℕ, _<_, _≤_};

@@ -1,7 +1,7 @@
 // The records of one kind, chained by a key, so that those with one key are found without a look at the others: versions by
 // their item, items by their number.
 use crate::LIMIT;
-use crate::index;
+use numbers::index;
 ghost use mathlib.Core.Path.{_≡_};
 ghost use Prim.Native.Nat.{_<_, _≤_, _%_};
 ghost use lib.ListN.{length};

@@ -2,8 +2,8 @@
 // only versions of items of one number: `past_j`, `past_u` and `past_v` are one past a record of a chain, and 0 at its end.
 use crate::chains::buckets;
 use crate::chains::chain;
-use crate::index;
 use meaning::Found;
+use numbers::index;
 ghost use mathlib.Core.Path.{_≡_};
 ghost use mathlib.Core.List.{[], _∷_};
 ghost use Prim.Native.Nat.{_<_, _≤_};

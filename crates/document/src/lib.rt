@@ -15,13 +15,6 @@ pub mod root; // root.rt: 10, the versions of the root
 // The most records of a document.
 pub const LIMIT: usize = 1000;
 
-// A record's number out of a column, as an index.
-fn index(x: u16) -> usize
-    ensures { λ r. ⌜ r ≡ x ⌝ }
-{
-    x as usize
-}
-
 // Everything that is asked of a document, in its order: 4, 5, 6, 8 record by record, then 7, then 9, then 10.
 // Cost: two passes over the records, the pairs of items that share a key, and one more pass.
 pub fn accept_columns(

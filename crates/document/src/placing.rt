@@ -1,7 +1,7 @@
 // The test 7 in one pass over the versions: for each item record the end of its last version so far.
 use crate::LIMIT;
-use crate::index;
 use meaning::Found;
+use numbers::index;
 ghost use mathlib.Core.Path.{_≡_};
 ghost use mathlib.Core.List.{[]};
 ghost use Prim.Native.Nat.{_<_};

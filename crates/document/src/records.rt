@@ -1,8 +1,8 @@
 // The tests 4, 5, 6 and 8, record by record: a record is gathered from the columns, decoded, and its depth kept in a column.
 use crate::LIMIT;
-use crate::index;
 use meaning::Node;
 use meaning::Reading;
+use numbers::index;
 ghost use mathlib.Core.Path.{_≡_};
 ghost use mathlib.Core.List.{[]};
 ghost use Prim.Native.Nat.{_<_, _≤_};

@@ -3,6 +3,7 @@ use document::LIMIT;
 use document::chains::Links;
 use document::chains::buckets;
 use document::chains::chain;
+use numbers::index;
 ghost use mathlib.Core.Path.{_≡_};
 ghost use Prim.Native.Nat.{ℕ, _<_, _≤_};
 ghost use lib.ListN.{length, getD};
@@ -14,13 +15,6 @@ ghost use Rattle.document.specs.Meet.{Twins};
 ghost use Rattle.prepare.specs.Keys.{Keys};
 ghost use Rattle.groups.specs.Groups.{Groups, Gathered};
 ghost use Rattle.groups.specs.Classes.{Nested, held, Class, ClassedBelow, classAt};
-
-// A record's number out of a column, as an index.
-fn index(x: u16) -> usize
-    ensures { λ r. ⌜ r ≡ x ⌝ }
-{
-    x as usize
-}
 
 // The class of item i, given those of the records below it: that of a lower item of its number, or i itself where there is none.
 // A look for each lower item of its key, down to the first of its number.

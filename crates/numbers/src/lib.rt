@@ -1,4 +1,4 @@
-// Numbers in bytes, little-endian, and signed numbers: read, compared and subtracted. Every proof on signed values stands in this crate.
+// Numbers in bytes, little-endian, and signed numbers: read, compared and subtracted; numbers of a column as indices. Every proof on signed values stands in this crate.
 ghost use mathlib.Core.Path.{_≡_};
 ghost use mathlib.Core.Bool.{_&&_};
 ghost use Prim.Native.Nat.{_+_, _*_, _≤_, _<_};
@@ -6,6 +6,13 @@ ghost use lib.IntN.{pos, _-ℤ_};
 ghost use lib.Signed.{leZ, mag};
 ghost use lib.ListN.{length};
 ghost use Rattle.meaning.specs.Bytes.{two, four, signed, eqZ};
+
+// A record's number or a day out of a column, as an index.
+pub fn index(x: u16) -> usize
+    ensures { λ r. ⌜ r ≡ x ⌝ }
+{
+    x as usize
+}
 
 // The number whose bytes are low, high.
 fn pair(low: u8, high: u8) -> u16

@@ -1,7 +1,7 @@
 // The version to which each field version belongs.
-use crate::index;
 use document::LIMIT;
 use meaning::Rule;
+use numbers::index;
 ghost use mathlib.Core.Path.{_≡_};
 ghost use Prim.Native.Nat.{ℕ, _<_};
 ghost use lib.Dec.{eqb};

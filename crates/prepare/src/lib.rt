@@ -24,13 +24,6 @@ pub struct Prepared {
     pub read: [u8; LIMIT],
 }
 
-// A record's number out of a column, as an index. Cost: none.
-fn index(x: u16) -> usize
-    ensures { λ r. ⌜ r ≡ x ⌝ }
-{
-    x as usize
-}
-
 // The rule prepared. Cost: six passes over the records, one of them with a climb of at most eight steps from each version.
 pub fn prepare(
     kind: &[u8],

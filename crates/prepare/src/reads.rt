@@ -1,9 +1,9 @@
 // Which versions a rule reads: the selected ones and their field versions.
 use crate::fields::holders;
-use crate::index;
 use crate::select::mark_selected;
 use document::LIMIT;
 use meaning::Rule;
+use numbers::index;
 ghost use mathlib.Core.Path.{_≡_};
 ghost use Prim.Native.Nat.{_<_, _≤_};
 ghost use lib.Dec.{eqb};

@@ -1,9 +1,9 @@
 // The rows of a rule: the way from one selected version to the next, and the chain of the field versions that matter with each.
-use crate::index;
 use document::LIMIT;
 use document::chains::Links;
 use document::chains::chain;
 use meaning::Rule;
+use numbers::index;
 ghost use mathlib.Core.Path.{_≡_};
 ghost use mathlib.Core.Bool.{Bool, cond};
 ghost use Prim.Native.Nat.{ℕ, _<_, _≤_};

@@ -1,7 +1,7 @@
 // Which versions a rule selects: those whose item's names from the root on fit its path.
-use crate::index;
 use document::LIMIT;
 use meaning::Rule;
+use numbers::index;
 ghost use mathlib.Core.Path.{_≡_};
 ghost use Prim.Native.Nat.{_<_, _≤_};
 ghost use lib.Dec.{eqb};

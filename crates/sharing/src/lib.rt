@@ -1,5 +1,6 @@
 // The lowest offender of one window, for a non-sequenced key, unique or reference rule.
 use meaning::Found;
+use numbers::index;
 ghost use mathlib.Core.Path.{_≡_};
 ghost use mathlib.Core.Logic.{_⊎_};
 ghost use mathlib.Core.Bool.{true, false};
@@ -19,13 +20,6 @@ ghost use Rattle.sharing.specs.Row.{during};
 ghost use Rattle.sharing.specs.Table.{holder, rowMisses};
 
 mod row; // row.rt: one row of a rule in a window
-
-// A record's number out of a column, as an index.
-fn index(x: u16) -> usize
-    ensures { λ r. ⌜ r ≡ x ⌝ }
-{
-    x as usize
-}
 
 // The lowest version that offends a key, which needs a value, or a unique rule in the window from..to; every stamp is below t before, and
 // at most t after. Cost: a look for each selected version, and a few for each field version with a value of one that is present.

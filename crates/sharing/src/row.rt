@@ -1,5 +1,5 @@
 // One row of a rule in a window: what is asked of its present field versions, and what is written at their representatives.
-use crate::index;
+use numbers::index;
 ghost use mathlib.Core.Path.{_≡_};
 ghost use mathlib.Core.Bool.{Bool, _&&_, not};
 ghost use Prim.Native.Nat.{ℕ, _<_, _≤_};

@@ -2,6 +2,7 @@
 // worked out once for the rule, and a walk over those that can offend.
 use document::LIMIT;
 use meaning::Found;
+use numbers::index;
 ghost use mathlib.Core.Path.{_≡_};
 ghost use mathlib.Core.Bool.{false};
 ghost use Prim.Native.Nat.{ℕ, _<_, _≤_};
@@ -22,13 +23,6 @@ mod walks; // walks.rt: two walks down the field versions under one item number
 
 // What stands for the reach of a value that is no number: it is wrong in every window.
 const EVER: u16 = 65535;
-
-// A record's number out of a column, as an index. Cost: none.
-fn index(x: u16) -> usize
-    ensures { λ r. ⌜ r ≡ x ⌝ }
-{
-    x as usize
-}
 
 // The day before which a window must begin for record f to offend, 0 where none can. Cost: two looks for each field version under its item number.
 fn reach_of(

@@ -1,5 +1,5 @@
 // Two walks down the field versions under one item number: the latest begin and the latest end of those that matter.
-use crate::index;
+use numbers::index;
 ghost use mathlib.Core.Path.{_≡_};
 ghost use mathlib.Core.Bool.{Bool, cond};
 ghost use Prim.Native.Nat.{ℕ, _≤_};

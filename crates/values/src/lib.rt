@@ -1,6 +1,7 @@
 // A representative for each version, equal exactly for equal values, so that two values are compared by comparing two numbers.
 use document::LIMIT;
 use document::chains::chain;
+use numbers::index;
 use numbers::magnitude;
 ghost use mathlib.Core.Path.{_≡_};
 ghost use mathlib.Core.List.{[], map};
@@ -14,13 +15,6 @@ ghost use Rattle.document.specs.Chains.{Grouped};
 ghost use Rattle.document.specs.Lent.{Values};
 ghost use Rattle.values.specs.Represents.{Represents};
 ghost use Rattle.values.specs.Chosen.{Even, held, Chosen, ChosenBelow, ByValue};
-
-// A record's number out of a column, as an index.
-fn index(x: u16) -> usize
-    ensures { λ r. ⌜ r ≡ x ⌝ }
-{
-    x as usize
-}
 
 // Whether records f and g have equal values.
 fn same_value(vkind: &[u8], value: &[i32], f: usize, g: usize) -> bool
