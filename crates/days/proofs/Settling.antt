@@ -1,22 +1,18 @@
 -- From a rule prepared over an accepted document to its verdict: the walk may be taken, and what it answers is the verdict over every day.
 use mathlib.Core.Path.{_≡_, refl, sym, ap, ap₂, _∙_, fun-ext}
-use mathlib.Core.Bool.{Bool, true, false, _||_, cond}
-use mathlib.Core.Logic.{_⊎_, inl, inr, ⊎-elim}
+use mathlib.Core.Bool.{Bool, true, _||_}
 use mathlib.Core.List.{List}
 use Prim.Native.Nat.{ℕ, _-_, _≤_, _<_}
 use native.Mathlib.Omega.{arith}
-use lib.Dec.{eqb}
 use lib.ListN.{length, getD}
-use borrow.Author.Tests.{eqb-true, eq-eqb, ne-eqb}
 use Rattle.meaning.specs.declared.Found.{Found}
 use Rattle.meaning.specs.declared.Rule.{Rule}
 use Rattle.meaning.specs.declared.Verdict.{Verdict}
 use Rattle.meaning.specs.Walk.{pick, first}
 use Rattle.meaning.specs.Document.{Doc}
 use Rattle.meaning.specs.Rules.{isKey, isUnique, isReference, isSequenced, ruleFields}
-use Rattle.meaning.specs.Select.{valued, readsOwn}
+use Rattle.meaning.specs.Select.{readsOwn}
 use Rattle.meaning.specs.Day.{alive, offends, offender, isChange, changeDays, onDays}
-use Rattle.meaning.proofs.Basics.{went, or-cases}
 use Rattle.meaning.proofs.Accepted.{accepted-sound}
 use Rattle.meaning.proofs.Slices.{present-alive}
 use Rattle.meaning.proofs.Over.{over}
@@ -26,10 +22,12 @@ use Rattle.document.specs.Lent.{Tree, Values, Periods, Checked}
 use Rattle.marks.specs.Marks.{marked, Marks}
 use Rattle.values.specs.Represents.{Represents}
 use Rattle.prepare.specs.declared.Prepared.{Prepared}
-use Rattle.prepare.specs.Rows.{wantsBy, wants, Rows}
+use Rattle.prepare.specs.Rows.{Rows}
+use Rattle.prepare.specs.Rowed.{Rowed}
+use Rattle.prepare.proofs.Valued.{valued-only}
 use Rattle.changes.proofs.Spans.{last-few, in-order, change-list}
 use Rattle.day.specs.Ready.{Ready, Referred, Terms}
-use Rattle.days.specs.Judging.{Walkable, Posed, offenderAlive, Rowed, Settled}
+use Rattle.days.specs.Judging.{Walkable, Posed, offenderAlive, Settled}
 
 -- rows with the columns read along them
 ready : {doc : Doc} {r : Rule} {own : Prepared} {begins ends reps : List ℕ} → Rowed doc r own → Periods doc begins ends → Represents doc reps
@@ -75,18 +73,6 @@ module _ {doc : Doc} {q r : Rule} {own held : Prepared} {begins ends reps : List
     judged m e =
         e ∙ ap₂ (λ (g : ℕ → Found) (ds : List ℕ). over g ds 0) same-offender (change-list doc q r f m)
         ∙ sym (verdict-changes doc q r (accepted-sound doc (s .checked .accepted)))
-
--- all that matters to a key or a unique rule is what has a value
-valued-by : (doc : Doc) (q : Rule) (f k : ℕ) → (k ≡ 1) ⊎ (k ≡ 2) → wantsBy doc q f k ≡ valued doc f
-unfolding wantsBy
-valued-by doc q f k (inl e) = rw e
-valued-by doc q f k (inr e) = rw e
-
-pub valued-only : (doc : Doc) (q : Rule) → (isKey q || isUnique q) ≡ true → (f : ℕ) → wants doc q f ≡ valued doc f
-unfolding wants
-valued-only doc q e f =
-    let k = ⊎-elim (λ t. inl (eqb-true (q .kind) 1 t)) (λ t. inr (eqb-true (q .kind) 2 t)) (or-cases (isKey q) (isUnique q) e) in
-    ⊎-elim (λ y. rw y (valued-by doc q f (q .kind) k)) (λ z. rw z) (went (isSequenced q))
 
 -- what preparing has given, put together: p is q where r is a reference
 pub settled : {doc : Doc} {p q r : Rule} {own held : Prepared} {begins ends reps : List ℕ} → (isReference r ≡ true → p ≡ q) → (isReference r ≡ true → (isKey q || isUnique q) ≡ true)

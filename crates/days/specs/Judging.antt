@@ -10,12 +10,12 @@ use Rattle.meaning.specs.Walk.{first}
 use Rattle.meaning.specs.Document.{Doc}
 use Rattle.meaning.specs.Day.{alive, offends}
 use Rattle.meaning.specs.Rules.{isReference, isSequenced}
-use Rattle.meaning.specs.Select.{readsOwn, valued}
+use Rattle.meaning.specs.Select.{valued}
 use Rattle.document.specs.Lent.{Periods, Checked}
-use Rattle.marks.specs.Marks.{Marks}
 use Rattle.values.specs.Represents.{Represents}
 use Rattle.prepare.specs.declared.Prepared.{Prepared}
-use Rattle.prepare.specs.Rows.{wants, Rows}
+use Rattle.prepare.specs.Rows.{wants}
+use Rattle.prepare.specs.Rowed.{Rowed}
 use Rattle.day.specs.Ready.{Ready, Referred, Terms}
 
 -- two prepared rules over one document, marks for the days of a stretch, and a clear stamp for each record
@@ -41,11 +41,6 @@ pub record Posed (doc : Doc) (q r : Rule) (start : ℕ) (next last lower : List 
 -- the lowest offender among the versions alive on day d; in a sound document that is the lowest of the day
 abbrev pub offenderAlive : Doc → Rule → Rule → ℕ → Found
 offenderAlive doc q r d = first (offends doc (alive doc d) q r) 0 (doc .size)
-
--- what a prepared rule of a document holds: its rows, and a mark on each version that it reads
-pub record Rowed (doc : Doc) (r : Rule) (own : Prepared) : Type 0 where
-  pub rows : Rows doc r (own .start) (own .next) (own .last) (own .lower)
-  pub read : Marks (readsOwn doc r) (doc .size) (own .read)
 
 -- rule r, which refers to q if it is a reference, and the rule that it refers to, or another one, prepared over an accepted document
 pub record Settled (doc : Doc) (q r : Rule) (own held : Prepared) (begins ends reps : List ℕ) : Type 0 where

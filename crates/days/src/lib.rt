@@ -16,7 +16,7 @@ ghost use Rattle.meaning.proofs.Over.{over};
 ghost use Rattle.document.specs.Lent.{Tree, Values, Periods, Checked};
 ghost use Rattle.marks.specs.Marks.{marked};
 ghost use Rattle.values.specs.Represents.{Represents};
-ghost use Rattle.days.specs.Judging.{Walkable, Posed, offenderAlive, Rowed, Settled};
+ghost use Rattle.days.specs.Judging.{Walkable, Posed, offenderAlive, Settled};
 
 // The first of the marked days from `from` on and below `to` that has an offender, with its lowest one and how many days were looked at.
 // Cost: a look at each day of the stretch, and for each marked one a look for each selected version and each of its wanted field versions.
@@ -112,27 +112,6 @@ fn judge(own: Prepared, held: Prepared, begin: &[u16], end: &[u16], rep: &[u16],
     )
 }
 
-// The rule that a reference refers to, prepared; the rule itself again if it is none.
-fn prepare_referred(
-    kind: &[u8],
-    vkind: &[u8],
-    name: &[u16],
-    parent: &[u16],
-    value: &[i32],
-    own: Prepared,
-    q: Rule,
-    r: Rule,
-) -> Prepared
-    requires { ⌜ (isReference r ≡ true → ruleFields q ≡ true) × ((doc : Doc) × Tree doc (now kind) (now name) (now parent) × Values doc (now kind) (now vkind) (now value) × Checked doc) ⌝ }
-    ensures referred { λ x. ⌜ ((doc : Doc) → Tree doc (now (kind .entry)) (now (name .entry)) (now (parent .entry)) → Values doc (now (kind .entry)) (now (vkind .entry)) (now (value .entry)) → isReference r ≡ true → Rowed doc q x) ⌝ }
-    ensures some { λ x. ⌜ ((doc : Doc) → Tree doc (now (kind .entry)) (now (name .entry)) (now (parent .entry)) → Values doc (now (kind .entry)) (now (vkind .entry)) (now (value .entry)) → Rowed doc r own → ((p : Rule) × Rowed doc p x)) ⌝ }
-{
-    if r.kind != 3 {
-        return own;
-    }
-    prepare::prepare(kind, vkind, name, parent, value, q)
-}
-
 // The verdict on the sequenced rule r, which refers to q if it is a reference, over an accepted document with a representative for each value.
 // Cost: preparing the rule, and the rule that it refers to; then a look at each day of its period, and for each change day a look for
 // each selected version and each of its wanted field versions.
@@ -152,6 +131,6 @@ pub fn verdict(
     ensures { λ x. ⌜ ((doc : Doc) → (p : Rule) → Tree doc (now (kind .entry)) (now (name .entry)) (now (parent .entry)) → Values doc (now (kind .entry)) (now (vkind .entry)) (now (value .entry)) → Periods doc (now (begin .entry)) (now (end .entry)) → Represents doc (now (rep .entry)) → Checked doc → isSequenced r ≡ true → (isReference r ≡ true → p ≡ q) → x ≡ onDays doc p r) ⌝ }
 {
     let own = prepare::prepare(kind, vkind, name, parent, value, r);
-    let held = prepare_referred(kind, vkind, name, parent, value, own, q, r);
+    let held = prepare::prepare_referred(kind, vkind, name, parent, value, own, q, r);
     judge(own, held, begin, end, rep, r)
 }

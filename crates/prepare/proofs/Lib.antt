@@ -6,3 +6,4 @@ pub mod Choosing
 pub mod Wanting
 pub mod Keying
 pub mod Skipping
+pub mod Valued

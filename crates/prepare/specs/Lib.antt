@@ -3,3 +3,4 @@ pub mod Holders
 pub mod Rows
 pub mod Keys
 pub mod Standing
+pub mod Rowed

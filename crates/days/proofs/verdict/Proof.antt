@@ -13,7 +13,7 @@ prepare-requires c κs =
 prepare-referred-requires : tie.Need-prepare-referred-requires
 prepare-referred-requires c κs =
     let p = c .before .before .before .before .before .before .before .before .pre in
-    (λ k. p .1 k .0, (p .2 .0, p .2 .1, p .2 .2, p .2 .5))
+    (λ k. steps-few _ (p .1 k .0), (p .2 .0, p .2 .1, p .2 .2, p .2 .5))
 
 judge-requires : tie.Need-judge-requires
 judge-requires c κs =

@@ -1,8 +1,7 @@
--- `days::prepare_referred` meets its contract: nothing is asked of a rule that is no reference.
+-- `prepare::prepare_referred` meets its contract: nothing is asked of a rule that is no reference.
 use borrow.Author.Tests.{eqb-true, eq-eqb}
-use Rattle.changes.proofs.Spans.{steps-few}
-use Rattle.days.proofs.prepare_referred.Statement.{statement}
-use Rattle.days.proofs.prepare_referred.Tie as tie
+use Rattle.prepare.proofs.prepare_referred.Statement.{statement}
+use Rattle.prepare.proofs.prepare_referred.Tie as tie
 
 returns : tie.Need-returns
 returns c = (λ doc t w k. absurd (c .if1 .taken (eqb-true _ 3 k)), λ doc t w s. (_, s))
@@ -10,7 +9,7 @@ returns c = (λ doc t w k. absurd (c .if1 .taken (eqb-true _ 3 k)), λ doc t w s
 prepare-requires : tie.Need-prepare-requires
 prepare-requires c κs =
     let p = c .before .before .before .before .before .before .pre in
-    (steps-few _ (p .0 (eq-eqb _ 3 (c .if1 .left))), p .1)
+    (p .0 (eq-eqb _ 3 (c .if1 .left)), p .1)
 
 returns-2 : tie.Need-returns-2
 returns-2 c =

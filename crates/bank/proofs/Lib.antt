@@ -1,0 +1,3 @@
+-- The laws behind the public calls.
+pub mod Tabling
+pub mod Asked

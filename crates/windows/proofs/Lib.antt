@@ -1,0 +1,8 @@
+-- The laws behind the walk over windows.
+pub mod Starting
+pub mod Skipping
+pub mod Walking
+pub mod Listing
+pub mod Fitting
+pub mod Settling
+pub mod Gathering

@@ -1,0 +1,117 @@
+// The verdict on a non-sequenced rule whose lists are laid out: the arrays of the walk, and its places.
+use crate::places::Places;
+use document::LIMIT;
+use meaning::Rule;
+use meaning::Verdict;
+use prepare::Prepared;
+use window::layout::Layout;
+ghost use mathlib.Core.Path.{_≡_};
+ghost use mathlib.Core.Bool.{true, false};
+ghost use Rattle.calendar.specs.Entries.{MonthTable};
+ghost use Rattle.meaning.specs.declared.Rule.{Rule};
+ghost use Rattle.meaning.specs.Document.{Doc};
+ghost use Rattle.meaning.specs.Rules.{isSequenced, ruleFields};
+ghost use Rattle.meaning.specs.Day.{isChange};
+ghost use Rattle.meaning.specs.Window.{inWindows};
+ghost use Rattle.marks.specs.Marks.{Marks};
+ghost use Rattle.window.specs.Laid.{Laid};
+ghost use Rattle.windows.specs.Placing.{Placed};
+ghost use Rattle.windows.specs.Walkable.{Going};
+ghost use Rattle.windows.specs.Settled.{Settled};
+
+// The walk over the windows, with stamps, owners and tokens of its own. Cost: the walk.
+fn walk_clear(
+    table: &[u16; 1201],
+    at: Places,
+    close: usize,
+    kind: u8,
+    laid: Layout,
+    held: Prepared,
+    begin: &[u16],
+    end: &[u16],
+    rep: &[u16],
+    group: &[u16],
+    days: &[u8],
+    distinct: bool,
+    low: usize,
+    high: usize,
+) -> Verdict
+    requires { ⌜ MonthTable (now table) × Going (at .place) (at .span) (at .slide) close (now days) × ((doc : Doc) × (q : Rule) × (r : Rule) × Laid doc q r (laid .start) (laid .next) (laid .last) (laid .lower) (held .start) (held .next) (held .last) (held .lower) (now begin) (now end) (now rep) (now group) distinct low high × (kind ≡ r .kind)) ⌝ }
+    ensures { λ x. ⌜ ((doc : Doc) → (q r : Rule) → Laid doc q r (laid .start) (laid .next) (laid .last) (laid .lower) (held .start) (held .next) (held .last) (held .lower) (now (begin .entry)) (now (end .entry)) (now (rep .entry)) (now (group .entry)) distinct low high → kind ≡ r .kind → Marks (isChange doc q r) 36526 (now (days .entry)) → ruleFields r ≡ true → Placed r (at .monthly) (at .place) (at .span) (at .slide) → close ≡ r .end → x ≡ inWindows doc q r) ⌝ }
+{
+    let next = laid.next;
+    let last = laid.last;
+    let lower = laid.lower;
+    let held_next = held.next;
+    let held_last = held.last;
+    let held_lower = held.lower;
+    let mut stamp = [0u16; LIMIT];
+    let mut owner = [0u16; LIMIT];
+    let mut seen = [0u32; LIMIT];
+    crate::walk(
+        table,
+        at.monthly,
+        at.place,
+        at.span,
+        at.slide,
+        close,
+        kind,
+        laid.start,
+        &next,
+        &last,
+        &lower,
+        held.start,
+        &held_next,
+        &held_last,
+        &held_lower,
+        begin,
+        end,
+        rep,
+        group,
+        days,
+        distinct,
+        low,
+        high,
+        &mut stamp,
+        &mut owner,
+        &mut seen,
+    )
+}
+
+// The verdict on a rule whose lists are laid out; `read` has a mark on each version that it reads by itself, and `held` is the rule that it
+// refers to, prepared, if it is a reference. Cost: a look at each record for the change days, two for a reference; then the walk.
+pub fn judge(
+    read: &[u8],
+    laid: Layout,
+    held: Prepared,
+    begin: &[u16],
+    end: &[u16],
+    rep: &[u16],
+    group: &[u16],
+    r: Rule,
+) -> Verdict
+    requires { ⌜ (ruleFields r ≡ true) × (isSequenced r ≡ false) × ((doc : Doc) × (q : Rule) × Settled doc q r (now read) laid held (now begin) (now end) (now rep) (now group)) ⌝ }
+    ensures { λ x. ⌜ ((doc : Doc) → (q : Rule) → Settled doc q r (now (read .entry)) laid held (now (begin .entry)) (now (end .entry)) (now (rep .entry)) (now (group .entry)) → x ≡ inWindows doc q r) ⌝ }
+{
+    let held_read = held.read;
+    let days = changes::change_marks(read, r.kind == 3, &held_read, begin, end, r.begin);
+    let bounds = day::terms::terms(r);
+    let table = calendar::starts();
+    let at = crate::places::places_of(&table, r);
+    walk_clear(
+        &table,
+        at,
+        r.end as usize,
+        r.kind,
+        laid,
+        held,
+        begin,
+        end,
+        rep,
+        group,
+        &days,
+        r.distinct == 1,
+        bounds.low,
+        bounds.high,
+    )
+}
