@@ -7,9 +7,9 @@ use native.Mathlib.Omega.{arith}
 use lib.Dec.{eqb}
 use lib.ListN.{length, getD}
 use borrow.Author.Tests.{eq-eqb}
-use Rattle.meaning.proofs.Basics.{clear, or-l, or-r}
+use Rattle.meaning.proofs.Basics.{or-r}
 use Rattle.day.specs.Row.{Fits, stamped}
-use Rattle.sharing.specs.Row.{foreign, asks, shows, lacking, Laid, Marked, Met, Room}
+use Rattle.sharing.specs.Row.{foreign, asks, shows, lacking, Laid, Claimed, Marked, Met, Room}
 
 pub room-of : (n : ℕ) (last lower ends reps stamps : List ℕ) → Fits n last lower ends reps stamps → (column : List ℕ) → n ≤ length column → Room n lower ends reps column
 room-of n last lower ends reps stamps s column h =
@@ -67,25 +67,13 @@ module _ (p : ℕ → Bool) (n : ℕ) (rep : ℕ → ℕ) (row : ℕ → Bool) (
           up-to = λ h. h;
         }
 
-    -- an answer that is yes says nothing of the columns
-    met-yes : true ≡ (p v && (lacking p n rep row needy || asks p n rep row (foreign t stamps owners class))) → Ends stamps owners true
-    met-yes i = record { answers = i; seen = λ z. absurd (clear refl z); owned = λ z. absurd (clear refl z); up-to = λ h. h }
-
-    module _ (e : p v ≡ true) where
-      pub met-lacking : (b : Bool) → b ≡ lacking p n rep row needy → b ≡ true → Ends stamps owners true
-      met-lacking b i y = met-yes (present-test (p v) _ true e (sym (or-l (lacking p n rep row needy) _ (sym i ∙ y))))
-
-      pub met-foreign : (b : Bool) → b ≡ asks p n rep row (foreign t stamps owners class) → b ≡ true → Ends stamps owners true
-      met-foreign b i y = met-yes (present-test (p v) _ true e (sym (or-r (lacking p n rep row needy) _ (sym i ∙ y))))
-
-      pub met-own : (b : Bool) → b ≡ lacking p n rep row needy → b ≡ false → (b′ : Bool) → b′ ≡ asks p n rep row (foreign t stamps owners class) → b′ ≡ false
-          → (stamps′ : List ℕ) → Laid p n rep row t stamps stamps′ → (owners′ : List ℕ) → Laid p n rep row class owners owners′ → Ends stamps′ owners′ false
-      unfolding Laid
-      met-own b i z b′ i′ z′ stamps′ l owners′ l′ =
-          let m = marked-present e stamps′ l in
-          record {
-            answers = present-test (p v) _ false e (rw (sym i ∙ z, sym i′ ∙ z′));
-            seen = λ _. m .seen;
-            owned = λ _ y. rw e (l′ y);
-            up-to = m .up-to;
-          }
+    -- it is, and the walk down its row gave the answer
+    pub met-claimed : p v ≡ true → (stamps′ owners′ : List ℕ) (answer : Bool) → Claimed p n rep row needy t class stamps owners stamps′ owners′ answer → Ends stamps′ owners′ answer
+    unfolding Laid
+    met-claimed e stamps′ owners′ answer s =
+        record {
+          answers = present-test (p v) _ answer e (s .answers);
+          seen = λ z. marked-present e stamps′ (s .stamp-laid z) .seen;
+          owned = λ z y. rw e (s .owner-laid z y);
+          up-to = s .up-to;
+        }

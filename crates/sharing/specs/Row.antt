@@ -43,6 +43,13 @@ module _ (p : ℕ → Bool) (n : ℕ) (rep : ℕ → ℕ) (row : ℕ → Bool) w
     pub seen : (y : ℕ) → stamped t stamps′ y ≡ (stamped t stamps y || (p v && shows y))
     pub up-to : UpTo t stamps → UpTo t stamps′
 
+  -- what a walk down the row did: the answer, and where that is no, what it left
+  pub record Claimed (needy : Bool) (t class : ℕ) (stamps owners stamps′ owners′ : List ℕ) (answer : Bool) : Type 0 where
+    pub answers : answer ≡ (lacking needy || asks (foreign t stamps owners class))
+    pub stamp-laid : answer ≡ false → Laid t stamps stamps′
+    pub owner-laid : answer ≡ false → Laid class owners owners′
+    pub up-to : UpTo t stamps → UpTo t stamps′
+
   -- what was done with the row of record v: the answer, and where that is no, the stamps and their owners
   pub record Met (needy : Bool) (v t class : ℕ) (stamps owners stamps′ owners′ : List ℕ) (answer : Bool) : Type 0 where
     pub answers : answer ≡ (p v && (lacking needy || asks (foreign t stamps owners class)))

@@ -22,7 +22,7 @@ ghost use Rattle.sharing.specs.Table.{holder, rowMisses};
 mod row; // row.rt: one row of a rule in a window
 
 // The lowest version that offends a key, which needs a value, or a unique rule in the window from..to; every stamp is below t before, and
-// at most t after. Cost: a look for each selected version, and a few for each field version with a value of one that is present.
+// at most t after. Cost: a look for each selected version, and one for each field version with a value of one that is present.
 pub fn shared_in(
     start: usize,
     next: &[u16],

@@ -5,7 +5,7 @@ ghost use mathlib.Core.Bool.{Bool, _&&_, not};
 ghost use Prim.Native.Nat.{ℕ, _<_, _≤_};
 ghost use lib.ListN.{length, getD};
 ghost use Rattle.day.specs.Row.{Chain, Fits, stamped};
-ghost use Rattle.sharing.specs.Row.{during, foreign, asks, lacking, Laid, Marked, Met, Room};
+ghost use Rattle.sharing.specs.Row.{during, asks, Laid, Claimed, Marked, Met, Room};
 
 // Whether version i shares a day with the window. Two looks.
 fn present(begin: &[u16], end: &[u16], from: u16, to: u16, i: usize) -> bool
@@ -13,63 +13,6 @@ fn present(begin: &[u16], end: &[u16], from: u16, to: u16, i: usize) -> bool
     ensures { λ r. ⌜ r ≡ during (now (begin .entry)) (now (end .entry)) from to i ⌝ }
 {
     (begin[i] < to) & (from < end[i])
-}
-
-// Whether a value is asked for and the row that ends one below `past` has none. Cost: at most a look for each of the row.
-fn lacks(
-    needy: bool,
-    begin: &[u16],
-    end: &[u16],
-    lower: &[u16],
-    from: u16,
-    to: u16,
-    past: usize,
-) -> bool
-    requires rooms { ⌜ (length (now begin) ≤ length (now end)) × (length (now begin) ≤ length (now lower)) ⌝ }
-    requires chain { ⌜ ((row : ℕ → Bool) × Chain row (length (now begin)) past (now lower)) ⌝ }
-    ensures { λ r. ⌜ ((row : ℕ → Bool) → (rep : ℕ → ℕ) → Chain row (length (now (begin .entry))) past (now (lower .entry)) → r ≡ lacking (during (now (begin .entry)) (now (end .entry)) from to) (length (now (begin .entry))) rep row needy) ⌝ }
-{
-    if !needy {
-        return false;
-    }
-    let mut at = past;
-    while 0 < at {
-        if present(begin, end, from, to, at - 1) {
-            return false;
-        }
-        at = index(lower[at - 1]);
-    }
-    true
-}
-
-// Whether a value of the row is held by another class than `class`. Cost: at most a look for each of the row.
-fn held_by_others(
-    begin: &[u16],
-    end: &[u16],
-    lower: &[u16],
-    rep: &[u16],
-    from: u16,
-    to: u16,
-    past: usize,
-    t: u16,
-    stamp: &[u16],
-    owner: &[u16],
-    class: u16,
-) -> bool
-    requires rooms { ⌜ Room (length (now begin)) (now lower) (now end) (now rep) (now stamp) × (length (now begin) ≤ length (now owner)) ⌝ }
-    requires chain { ⌜ ((row : ℕ → Bool) × Chain row (length (now begin)) past (now lower)) ⌝ }
-    ensures { λ r. ⌜ ((row : ℕ → Bool) → Chain row (length (now (begin .entry))) past (now (lower .entry)) → r ≡ asks (during (now (begin .entry)) (now (end .entry)) from to) (length (now (begin .entry))) (λ f. getD (now (rep .entry)) f 0) row (foreign t (now (stamp .entry)) (now (owner .entry)) class)) ⌝ }
-{
-    let mut at = past;
-    while 0 < at {
-        let x = index(rep[at - 1]);
-        let other = (stamp[x] == t) & (owner[x] != class);
-        if present(begin, end, from, to, at - 1) & other {
-            return true;
-        }
-        at = index(lower[at - 1]);
-    }
-    false
 }
 
 // Whether a value of the row is not stamped t. Cost: at most a look for each of the row.
@@ -125,6 +68,43 @@ fn lay(
     }
 }
 
+// Whether the row that ends one below `past` has a value that another class than `class` holds, or none where one is needed; where not, its
+// values are stamped t and `class` owns them. Cost: at most a look for each of the row.
+fn claim(
+    begin: &[u16],
+    end: &[u16],
+    lower: &[u16],
+    rep: &[u16],
+    needy: bool,
+    from: u16,
+    to: u16,
+    past: usize,
+    t: u16,
+    class: u16,
+    stamp: &mut [u16],
+    owner: &mut [u16],
+) -> bool
+    requires rooms { ⌜ Room (length (now begin)) (now lower) (now end) (now rep) (now stamp) × (length (now begin) ≤ length (now owner)) ⌝ }
+    requires chain { ⌜ ((row : ℕ → Bool) × Chain row (length (now begin)) past (now lower)) ⌝ }
+    ensures { λ r. ⌜ ((row : ℕ → Bool) → Chain row (length (now (begin .entry))) past (now (lower .entry)) → Claimed (during (now (begin .entry)) (now (end .entry)) from to) (length (now (begin .entry))) (λ f. getD (now (rep .entry)) f 0) row needy t class (now (stamp .entry)) (now (owner .entry)) (now (stamp .exit)) (now (owner .exit)) r) ⌝ }
+{
+    let mut at = past;
+    let mut bare = needy;
+    while 0 < at {
+        if present(begin, end, from, to, at - 1) {
+            let x = index(rep[at - 1]);
+            if (stamp[x] == t) & (owner[x] != class) {
+                return true;
+            }
+            stamp[x] = t;
+            owner[x] = class;
+            bare = false;
+        }
+        at = index(lower[at - 1]);
+    }
+    bare
+}
+
 // Stamps the values of the row of version v. Cost: a look for each of the row, none where v is not present.
 pub fn stamp_row(
     last: &[u16],
@@ -171,7 +151,7 @@ pub fn row_misses(
 }
 
 // Whether the row of version v lacks a value or has one of another class; where not, its values are stamped and its class owns them.
-// Cost: a few looks for each of the row, none where v is not present.
+// Cost: a look for each of the row, none where v is not present.
 pub fn row_shares(
     last: &[u16],
     lower: &[u16],
@@ -194,27 +174,18 @@ pub fn row_shares(
     if !present(begin, end, from, to, v) {
         return false;
     }
-    let past = index(last[v]);
-    if lacks(needy, begin, end, lower, from, to, past) {
-        return true;
-    }
-    let class = group[v];
-    if held_by_others(
+    claim(
         begin,
         end,
         lower,
         rep,
+        needy,
         from,
         to,
-        past,
+        index(last[v]),
         t,
+        group[v],
         stamp,
         owner,
-        class,
-    ) {
-        return true;
-    }
-    lay(begin, end, lower, rep, from, to, past, t, stamp);
-    lay(begin, end, lower, rep, from, to, past, class, owner);
-    false
+    )
 }

@@ -5,7 +5,8 @@ use borrow.Author.Needs.{needs}
 use lib.ListN.{length, getD}
 use Rattle.day.specs.Row.{stamped}
 use Rattle.sharing.specs.Row.{during, asks}
-use Rattle.sharing.proofs.Searching.{Searched, searched-start, searched-less, searched-next, searched-hit, searched-end, unstamped-tested, entry}
+use Rattle.sharing.proofs.Descent.{down-less}
+use Rattle.sharing.proofs.Searching.{Searched, searched-start, searched-next, searched-hit, searched-end, unstamped-tested, entry}
 use Rattle.sharing.proofs.row.has_unstamped.Statement.{statement}
 use Rattle.sharing.proofs.row.has_unstamped.Tie as tie
 
@@ -41,13 +42,13 @@ mul-if1 : tie.Need-mul-if1 Inv-loop μ-loop
 mul-if1 c =
     let a = c .before .before .before .before .before .before .before .before .before .before in
     let s = c .before .before .before .before .loop in
-    omega (arith, entry _ _ _ _ _ (a .pre .0) _ (s .inv .0) (c .before .before .before .loop-test .taken) _ (c .before .index .ensures) .1, a .good)
+    omega (arith, entry _ _ _ _ _ (a .pre .0) _ (s .inv .0 .0) (c .before .before .before .loop-test .taken) _ (c .before .index .ensures) .1, a .good)
 
 shared-slice-read-if1 : tie.Need-shared-slice-read-if1 Inv-loop μ-loop
 shared-slice-read-if1 c =
     let a = c .before .before .before .before .before .before .before .before .before .before .before in
     let s = c .before .before .before .before .before .loop in
-    omega (arith, entry _ _ _ _ _ (a .pre .0) _ (s .inv .0) (c .before .before .before .before .loop-test .taken) _ (c .before .before .index .ensures) .1)
+    omega (arith, entry _ _ _ _ _ (a .pre .0) _ (s .inv .0 .0) (c .before .before .before .before .loop-test .taken) _ (c .before .before .index .ensures) .1)
 
 returns : tie.Need-returns Inv-loop μ-loop
 unfolding asks
@@ -76,7 +77,7 @@ loop-less c =
     let a = c .before .before .before .before .before .before .before .before .before .before .before .before .before .before in
     let s = c .before .before .before .before .before .before .before .before .loop in
     let h = c .before .before .before .before .before .before .before .loop-test .taken in
-    searched-less _ _ _ _ (a .pre .1) _ (s .inv) h _ (c .index2 .ensures)
+    down-less _ _ _ (a .pre .1) _ (s .inv .0) h _ (c .index2 .ensures)
 
 loop-again : tie.Need-loop-again Inv-loop μ-loop
 loop-again c =

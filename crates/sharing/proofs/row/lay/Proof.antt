@@ -6,19 +6,20 @@ use borrow.Author.Needs.{needs}
 use lib.ListN.{length, getD}
 use Rattle.sharing.specs.Row.{during}
 use Rattle.sharing.proofs.Searching.{entry}
-use Rattle.sharing.proofs.Laying.{Layed, layed-start, layed-less, layed-skip, layed-set, layed-end}
+use Rattle.sharing.proofs.Descent.{Down, stepped, down-start, down-less, down-next}
+use Rattle.sharing.proofs.Laying.{Layed, layed-start, layed-skip, layed-set, layed-end}
 use Rattle.sharing.proofs.row.lay.Statement.{statement}
 use Rattle.sharing.proofs.row.lay.Tie as tie
 
 abbrev Inv-loop : tie.InvT-loop
 Inv-loop begin end lower rep from to past x column₀ at₀ column at =
-    Layed (during begin end from to) (length begin) (λ f. getD rep f 0) x past lower column₀ at column
+    Down (length begin) past lower at × Layed (during begin end from to) (length begin) (λ f. getD rep f 0) x past lower column₀ at column
 
 abbrev μ-loop : tie.MeasureT-loop
 μ-loop begin end lower rep from to past x column₀ at₀ column at = at
 
 loop-holds : tie.Need-loop-holds Inv-loop μ-loop
-loop-holds c = layed-start _ _ _ _ _ _ _ (c .before .before .before .before .before .pre .1)
+loop-holds c = (down-start _ _ _ (c .before .before .before .before .before .pre .1), layed-start _ _ _ _ _ _ _)
 
 sub-present : tie.Need-sub-present Inv-loop μ-loop
 sub-present c = search needs
@@ -42,13 +43,13 @@ mul-column : tie.Need-mul-column Inv-loop μ-loop
 mul-column c =
     let a = c .before .before .before .before .before .before .before .before .before .before .before in
     let s = c .before .before .before .before .before .loop in
-    omega (arith, entry _ _ _ _ _ (a .pre .0) _ (s .inv .0) (c .before .before .before .before .loop-test .taken) _ (c .index .ensures) .1, s .inv .1, a .good)
+    omega (arith, entry _ _ _ _ _ (a .pre .0) _ (s .inv .0 .0) (c .before .before .before .before .loop-test .taken) _ (c .index .ensures) .1, s .inv .1 .size, a .good)
 
 slice-write-column : tie.Need-slice-write-column Inv-loop μ-loop
 slice-write-column c =
     let a = c .before .before .before .before .before .before .before .before .before .before .before in
     let s = c .before .before .before .before .before .loop in
-    omega (arith, entry _ _ _ _ _ (a .pre .0) _ (s .inv .0) (c .before .before .before .before .loop-test .taken) _ (c .index .ensures) .1, s .inv .1)
+    omega (arith, entry _ _ _ _ _ (a .pre .0) _ (s .inv .0 .0) (c .before .before .before .before .loop-test .taken) _ (c .index .ensures) .1, s .inv .1 .size)
 
 sub-index-2 : tie.Need-sub-index-2 Inv-loop μ-loop
 sub-index-2 c = search needs
@@ -67,7 +68,7 @@ loop-less c =
     let a = c .before .before .before .before .before .before .before .before .before .before .before in
     let s = c .before .before .before .before .before .loop in
     let h = c .before .before .before .before .loop-test .taken in
-    layed-less _ _ _ _ _ _ _ (a .pre .1) _ _ (s .inv) h _ (c .index2 .ensures)
+    down-less _ _ _ (a .pre .1) _ (s .inv .0) h _ (c .index2 .ensures)
 
 loop-again : tie.Need-loop-again Inv-loop μ-loop
 loop-again c =
@@ -75,16 +76,19 @@ loop-again c =
     let s = c .before .before .before .before .before .loop in
     let h = c .before .before .before .before .loop-test .taken in
     let is = c .before .before .before .present .ensures in
-    ⊎-elim
-    (λ w. layed-set _ _ _ _ _ _ _ (a .pre .1) _ _ (s .inv) h _ (c .index2 .ensures) (sym is ∙ w .0 .taken) _ (w .2 .ensures) (omega (arith, entry _ _ _ _ _ (a .pre .0) _ (s .inv .0) h _ (w .2 .ensures) .1, s .inv .1)) _ (w .3))
-    (λ w. layed-skip _ _ _ _ _ _ _ (a .pre .1) _ _ (s .inv) h _ (c .index2 .ensures) (sym is ∙ w .0 .left) _ (w .1))
-    (c .before .before .if1 .came)
+    let down = stepped _ _ _ _ (s .inv .0) h _ (c .index2 .ensures) in (
+      down-next _ _ _ (a .pre .1) _ (s .inv .0) h _ (c .index2 .ensures),
+      ⊎-elim
+          (λ w. layed-set _ _ _ _ _ _ _ _ _ (s .inv .1) _ down (sym is ∙ w .0 .taken) _ (w .2 .ensures) (omega (arith, entry _ _ _ _ _ (a .pre .0) _ (s .inv .0 .0) h _ (w .2 .ensures) .1, s .inv .1 .size)) _ (w .3))
+          (λ w. layed-skip _ _ _ _ _ _ _ _ _ (s .inv .1) _ down (sym is ∙ w .0 .left) _ (w .1))
+          (c .before .before .if1 .came),
+    )
 
 same-length : tie.Need-same-length Inv-loop μ-loop
 same-length c = search needs
 
 returns : tie.Need-returns Inv-loop μ-loop
-returns c = λ row ch. layed-end _ _ _ _ _ _ _ _ _ (c .before .loop .inv) (c .loop-test .left) row ch
+returns c = λ row ch. layed-end _ _ _ _ _ _ _ _ _ (c .before .loop .inv .1) (c .loop-test .left) row ch
 
 pub lay-spec : {M : Type 1} → statement M
 lay-spec =
