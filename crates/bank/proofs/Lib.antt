@@ -1,4 +1,4 @@
--- The laws behind the public calls.
-pub mod Tabling
+-- The laws behind the public calls, and the theorems about them.
 pub mod Asked
-pub mod Unique
+pub mod Calls
+pub mod Theorems

@@ -1,17 +1,24 @@
 // The public face of the checker: the slice of a day, the change days of a rule and the verdict on a rule, for every byte string.
-use document::LIMIT;
 use meaning::Listed;
+use meaning::Reading;
 use meaning::Verdict;
+use nodes::Columns;
 use nodes::Loaded;
 ghost use mathlib.Core.Path.{_≡_};
-ghost use Rattle.meaning.specs.Answer.{sliceAnswer, sliceLent, changesAnswer, changesLent, verdict};
-ghost use Rattle.bank.specs.Whole.{refusedAs};
-
-mod judging; // judging.rt: the verdict over columns and a rule table
+ghost use mathlib.Core.List.{List};
+ghost use Prim.Native.Nat.{ℕ, _<_};
+ghost use lib.ListN.{length};
+ghost use Rattle.meaning.specs.declared.Reading.the-variants.{Accepted};
+ghost use Rattle.meaning.specs.Nodes.{docOf};
+ghost use Rattle.meaning.specs.Rules.{ruleAt, rulesOf, readRules};
+ghost use Rattle.meaning.specs.Answer.{referredBy, judged, sliceAnswer, sliceLent, changesAnswer, changesLent, verdict, tellListed, tellVerdict};
+ghost use Rattle.nodes.specs.declared.Loaded.the-variants.{Nodes};
+ghost use Rattle.nodes.specs.Unpacking.{Unpacks};
+ghost use Rattle.bank.specs.Refusing.{refusedAs};
 
 // The slice of a day, into a lent list.
 pub fn slice(nodes: &[u8], day: usize, out: &mut [u16]) -> Listed
-    ensures answer { λ r. ⌜ r ≡ sliceAnswer (now (nodes .entry)) day (now (out .entry)) ⌝ }
+    ensures answer { λ r. ⌜ tellListed r ≡ tellListed (sliceAnswer (now (nodes .entry)) day (now (out .entry))) ⌝ }
     ensures lent { λ r. ⌜ now (out .exit) ≡ sliceLent (now (nodes .entry)) day (now (out .entry)) ⌝ }
 {
     lists::slice(nodes, day, out)
@@ -19,7 +26,7 @@ pub fn slice(nodes: &[u8], day: usize, out: &mut [u16]) -> Listed
 
 // The change days of a sequenced rule, into a lent list.
 pub fn change_days(nodes: &[u8], rules: &[u8], rule: usize, out: &mut [u16]) -> Listed
-    ensures answer { λ r. ⌜ r ≡ changesAnswer (now (nodes .entry)) (now (rules .entry)) rule (now (out .entry)) ⌝ }
+    ensures answer { λ r. ⌜ tellListed r ≡ tellListed (changesAnswer (now (nodes .entry)) (now (rules .entry)) rule (now (out .entry))) ⌝ }
     ensures lent { λ r. ⌜ now (out .exit) ≡ changesLent (now (nodes .entry)) (now (rules .entry)) rule (now (out .entry)) ⌝ }
 {
     lists::change_days(nodes, rules, rule, out)
@@ -35,34 +42,21 @@ fn refused(loaded: Loaded) -> Verdict
     }
 }
 
-// The verdict on a rule: holds, with how many slices or windows were looked at; fails, with the first failing day or window start, the lowest
-// offending record and how many; or refused. Cost: reading both images, then the verdict on the rule.
-pub fn verdict(nodes: &[u8], rules: &[u8], rule: usize) -> Verdict
-    ensures { λ r. ⌜ r ≡ verdict (now (nodes .entry)) (now (rules .entry)) rule ⌝ }
+// The verdict on a rule of an accepted table over the n records of an accepted image.
+fn judge(columns: Columns, n: usize, rules: &[u8], rule: usize) -> Verdict
+    requires { ⌜ ((image : List ℕ) × Unpacks image columns × (columns .loaded ≡ Nodes n)) × (readRules (now rules) ≡ Accepted) × (rule < length (rulesOf (now rules))) ⌝ }
+    ensures { λ r. ⌜ ((image : List ℕ) → Unpacks image columns → columns .loaded ≡ Nodes n → r ≡ judged (docOf image) (referredBy (rulesOf (now (rules .entry))) rule) (ruleAt (rulesOf (now (rules .entry))) rule)) ⌝ }
 {
-    let mut kind = [0u8; LIMIT];
-    let mut vkind = [0u8; LIMIT];
-    let mut name = [0u16; LIMIT];
-    let mut parent = [0u16; LIMIT];
-    let mut begin = [0u16; LIMIT];
-    let mut end = [0u16; LIMIT];
-    let mut value = [0i32; LIMIT];
-    let mut item = [0u32; LIMIT];
-    let loaded = nodes::load(
-        nodes,
-        &mut kind,
-        &mut vkind,
-        &mut name,
-        &mut parent,
-        &mut begin,
-        &mut end,
-        &mut value,
-        &mut item,
-    );
-    let Loaded::Nodes(n) = loaded else {
-        return refused(loaded);
-    };
-    judging::judge_in_table(
+    let kind = columns.kind;
+    let vkind = columns.vkind;
+    let name = columns.name;
+    let parent = columns.parent;
+    let begin = columns.begin;
+    let end = columns.end;
+    let value = columns.value;
+    let item = columns.item;
+    let rep = judging::represent_front(n, &kind, &vkind, &value);
+    judging::judge_rule(
         n,
         &kind,
         &vkind,
@@ -72,7 +66,31 @@ pub fn verdict(nodes: &[u8], rules: &[u8], rule: usize) -> Verdict
         &end,
         &value,
         &item,
+        &rep,
         rules,
         rule,
     )
+}
+
+// The verdict on a rule: holds, with how many slices or windows were looked at; fails, with the first failing day or window start, the lowest
+// offending record and how many; or refused. Cost: reading both images, then the verdict on the rule.
+pub fn verdict(nodes: &[u8], rules: &[u8], rule: usize) -> Verdict
+    ensures { λ r. ⌜ tellVerdict r ≡ tellVerdict (verdict (now (nodes .entry)) (now (rules .entry)) rule) ⌝ }
+{
+    let columns = nodes::read_columns(nodes);
+    let loaded = columns.loaded;
+    let Loaded::Nodes(n) = loaded else {
+        return refused(loaded);
+    };
+    let read = rules::read_rules(rules);
+    match read {
+        Reading::Refused(number, place) => {
+            return Verdict::Refused(number, place);
+        }
+        Reading::Accepted => {}
+    }
+    if rules::count_rules(rules) <= rule {
+        return Verdict::Refused(11, 0);
+    }
+    judge(columns, n, rules, rule)
 }

@@ -41,3 +41,11 @@ pub record Numbers (doc : Doc) (kinds parents items : List ℕ) : Type 0 where
 pub record Checked (doc : Doc) : Type 0 where
   pub accepted : accept doc ≡ Accepted
   pub few : doc .size ≤ limit
+
+-- all eight columns of an accepted document
+pub record Whole (doc : Doc) (kinds vkinds names parents begins ends : List ℕ) (values : List ℤ) (items : List ℕ) : Type 0 where
+  pub tree : Tree doc kinds names parents
+  pub values-held : Values doc kinds vkinds values
+  pub periods : Periods doc begins ends
+  pub numbers : Numbers doc kinds parents items
+  pub checked : Checked doc

@@ -1,16 +1,16 @@
 -- The ways out of `slice`: the image's refusal, a day past the last, and the list. Over plain variables: what each call gave, with what it ensures.
 use mathlib.Core.Path.{_≡_, refl, sym, ap, _∙_}
-use mathlib.Core.List.{List, _++_, map}
+use mathlib.Core.List.{List}
 use Prim.Native.Nat.{ℕ, _-_, _≤_, _<_}
-use lib.ListN.{length, drop, take}
+use native.Mathlib.Omega.{arith}
+use lib.ListN.{length, take}
 use borrow.Author.Tests.{le-leb, lt-leb}
-use Rattle.meaning.specs.declared.Node.{Node}
 use Rattle.meaning.specs.declared.Listed.{Listed}
 use Rattle.meaning.specs.declared.Listed.the-variants.{Stored, Refused}
 use Rattle.meaning.specs.declared.Reading.{Reading}
 use Rattle.meaning.specs.declared.Reading.the-variants as reading
 use Rattle.meaning.specs.Walk.{pick}
-use Rattle.meaning.specs.Document.{Doc, ofNodes}
+use Rattle.meaning.specs.Document.{Doc}
 use Rattle.meaning.specs.Nodes.{docOf, readNodes}
 use Rattle.meaning.specs.Day.{alive, slice}
 use Rattle.meaning.specs.Answer.{storing, lentAfter, readSlice, sliceAnswer, sliceLent}
@@ -19,8 +19,9 @@ use Rattle.document.specs.Columns.{limit}
 use Rattle.document.specs.Lent.{Lends, Periods}
 use Rattle.nodes.specs.declared.Loaded.{Loaded}
 use Rattle.nodes.specs.declared.Loaded.the-variants.{Nodes, Refused as Unloaded}
-use Rattle.nodes.specs.Loading.{loading, unpacked}
-use Rattle.nodes.proofs.Held.{Held, refused-image, held-image, lends, checked}
+use Rattle.nodes.specs.declared.Columns.{Columns}
+use Rattle.nodes.specs.Unpacking.{Unpacks}
+use Rattle.nodes.proofs.Held.{refused-image, held-image, front-room}
 use Rattle.lists.specs.Lending.{refusedAs}
 
 module _ (image : List ℕ) (day : ℕ) (lent : List ℕ) where
@@ -39,39 +40,39 @@ module _ (image : List ℕ) (day : ℕ) (lent : List ℕ) where
   unfolding sliceAnswer sliceLent
   by-list e p q = rw (e, sym p) (refl, q)
 
-  module _ {x : Loaded} (ex : x ≡ loading image limit limit limit limit limit limit limit limit) where
+  module _ {c : Columns} (u : Unpacks image c) {x : Loaded} (ex : x ≡ c .loaded) where
     pub slice-refused : {k p : ℕ} → x ≡ Unloaded k p → {y : Listed} → y ≡ refusedAs x → Right y lent
     unfolding readSlice
     slice-refused r {y} e =
-        let a = refused-image image ex r in
+        let a = refused-image image (u .answer) (sym ex ∙ r) in
         let y-is : y ≡ Refused _ _ = e ∙ ap refusedAs r in
         rw y-is (by-reading (rw a))
 
     module _ {n : ℕ} (r : x ≡ Nodes n) where
-      h : Held image n
-      h = held-image image ex r
+      accepted : readNodes image ≡ reading.Accepted
+      accepted = held-image image (u .answer) (sym ex ∙ r) .accepted
 
-      pub slice-few : n ≤ limit
-      slice-few = h .few
+      pub slice-fronts : (n ≤ limit) × (n ≤ length (c .kind)) × (n ≤ length (c .begin)) × (n ≤ length (c .end))
+      slice-fronts =
+          let w = u .whole n (sym ex ∙ r) in
+          let size = u .size n (sym ex ∙ r) in
+          (omega (arith, size, w .checked .few), front-room _ (w .tree .kind) size, front-room _ (w .periods .begin) size, front-room _ (w .periods .end) size)
 
       pub slice-late : 36524 < day → Right (Refused 11 0) lent
       unfolding readSlice
-      slice-late l = by-reading (rw (h .accepted, lt-leb day 36524 l))
+      slice-late l = by-reading (rw (accepted, lt-leb day 36524 l))
 
-      pub slice-stored : day ≤ 36524 → (k₀ b₀ e₀ : List ℕ) {k b e : List ℕ} → k ≡ unpacked x (λ (m : Node). m .kind) image k₀ → b ≡ unpacked x (λ (m : Node). m .begin) image b₀
-          → e ≡ unpacked x (λ (m : Node). m .end) image e₀ → {y : Listed} {out : List ℕ}
-          → ((doc : Doc) → Lends (doc .size) (doc .kind) 0 (take (n - 0) k) → Periods doc (take (n - 0) b) (take (n - 0) e)
+      pub slice-stored : day ≤ 36524 → {y : Listed} {out : List ℕ}
+          → ((doc : Doc) → Lends (doc .size) (doc .kind) 0 (take (n - 0) (c .kind)) → Periods doc (take (n - 0) (c .begin)) (take (n - 0) (c .end))
           → y ≡ storing reading.Accepted (pick (alive doc day) 0 (doc .size)) lent)
-          → ((doc : Doc) → Lends (doc .size) (doc .kind) 0 (take (n - 0) k) → Periods doc (take (n - 0) b) (take (n - 0) e)
+          → ((doc : Doc) → Lends (doc .size) (doc .kind) 0 (take (n - 0) (c .kind)) → Periods doc (take (n - 0) (c .begin)) (take (n - 0) (c .end))
           → out ≡ lentAfter y (pick (alive doc day) 0 (doc .size)) lent)
           → Right y out
-      unfolding readSlice docOf ofNodes
-      slice-stored l k₀ b₀ e₀ {k} {b} {e} hk hb he {y} {out} p q =
+      unfolding readSlice
+      slice-stored l {y} {out} p q =
           let doc = docOf image in
-          let t : Lends (doc .size) (doc .kind) 0 (take (n - 0) k) = lends image n h (λ (m : Node). m .kind) 0 k₀ k (rw r at hk) in
-          let w : Periods doc (take (n - 0) b) (take (n - 0) e) =
-          record { begin = lends image n h (λ (m : Node). m .begin) 0 b₀ b (rw r at hb); end = lends image n h (λ (m : Node). m .end) 0 e₀ e (rw r at he) } in
-          let s = accepted-slice doc (checked image n h .accepted) day in
-          by-list (rw (h .accepted, le-leb day 36524 l))
-          (p doc t w ∙ ap (λ (list : List ℕ). storing reading.Accepted list lent) (sym s))
-          (q doc t w ∙ ap (λ (list : List ℕ). lentAfter y list lent) (sym s))
+          let w = u .whole n (sym ex ∙ r) in
+          let s = accepted-slice doc (w .checked .accepted) day in
+          by-list (rw (accepted, le-leb day 36524 l))
+          (p doc (w .tree .kind) (w .periods) ∙ ap (λ (list : List ℕ). storing reading.Accepted list lent) (sym s))
+          (q doc (w .tree .kind) (w .periods) ∙ ap (λ (list : List ℕ). lentAfter y list lent) (sym s))

@@ -6,18 +6,17 @@ use Prim.Native.Nat.{ℕ, _≤_, _<_}
 use native.Mathlib.Omega.{arith}
 use lib.Dec.{ltb, eqb}
 use lib.ListN.{length}
-use borrow.Author.Tests.{lt-ltb, le-ltb, eqb-true, eq-eqb, ne-eqb}
+use borrow.Author.Tests.{lt-ltb, le-ltb, eq-eqb, ne-eqb}
 use Rattle.meaning.specs.declared.Rule.{Rule}
 use Rattle.meaning.specs.declared.Listed.{Listed}
 use Rattle.meaning.specs.declared.Listed.the-variants.{Stored, Refused}
 use Rattle.meaning.specs.declared.Reading.{Reading}
 use Rattle.meaning.specs.declared.Reading.the-variants as reading
 use Rattle.meaning.specs.Document.{Doc}
-use Rattle.meaning.specs.Rules.{isReference, isSequenced, ruleFields, ruleAt, rulesOf, readRules}
+use Rattle.meaning.specs.Rules.{isReference, isSequenced, ruleAt, rulesOf, readRules}
 use Rattle.meaning.specs.Day.{changeDays}
 use Rattle.meaning.specs.Answer.{referredBy, storing, lentAfter}
 use Rattle.rules.specs.Table.{Table}
-use Rattle.rules.proofs.Tables.{accepted-fields, referred-row}
 use Rattle.lists.specs.Lending.{readTurning, turningDays}
 
 module _ (rules : List ℕ) (k : ℕ) where
@@ -30,17 +29,6 @@ module _ (rules : List ℕ) (k : ℕ) where
   table-refused e r list lent = rw (sym e ∙ r)
 
   module _ (a : readRules rules ≡ reading.Accepted) where
-    -- the rule and the rule that it refers to fit the table
-    module _ (h : k < length rs) {r : Rule} (er : r ≡ ruleAt rs k) where
-      pub fields-of : ruleFields r ≡ true
-      fields-of = rw er (accepted-fields rules a k h)
-
-      pub fields-referred : {q : Rule} → (isReference (ruleAt rs k) ≡ true → q ≡ referredBy rs k) → isReference r ≡ true → ruleFields q ≡ true
-      fields-referred {q} eq e =
-          let t : isReference (ruleAt rs k) ≡ true = ap isReference (sym er) ∙ e in
-          let row = referred-row rules a k h {r = ruleAt rs k} refl (eqb-true _ 3 t) in
-          rw (eq t) (accepted-fields rules a (ruleAt rs k .referred) (row .below))
-
     -- no such rule
     pub table-none : {n : ℕ} → Table rules n → n ≤ k → (list lent : List ℕ) → Refused 11 0 ≡ storing (readTurning rules k) list lent
     unfolding storing

@@ -1,5 +1,4 @@
 // The slice of a day and the change days of a rule, from raw images into lent lists.
-use document::LIMIT;
 use meaning::Listed;
 use meaning::Reading;
 use nodes::Loaded;
@@ -29,31 +28,17 @@ pub fn slice(nodes: &[u8], day: usize, out: &mut [u16]) -> Listed
     ensures answer { λ r. ⌜ r ≡ sliceAnswer (now (nodes .entry)) day (now (out .entry)) ⌝ }
     ensures lent { λ r. ⌜ now (out .exit) ≡ sliceLent (now (nodes .entry)) day (now (out .entry)) ⌝ }
 {
-    let mut kind = [0u8; LIMIT];
-    let mut vkind = [0u8; LIMIT];
-    let mut name = [0u16; LIMIT];
-    let mut parent = [0u16; LIMIT];
-    let mut begin = [0u16; LIMIT];
-    let mut end = [0u16; LIMIT];
-    let mut value = [0i32; LIMIT];
-    let mut item = [0u32; LIMIT];
-    let loaded = nodes::load(
-        nodes,
-        &mut kind,
-        &mut vkind,
-        &mut name,
-        &mut parent,
-        &mut begin,
-        &mut end,
-        &mut value,
-        &mut item,
-    );
+    let columns = nodes::read_columns(nodes);
+    let loaded = columns.loaded;
     let Loaded::Nodes(n) = loaded else {
         return refused(loaded);
     };
     if LAST < day {
         return Listed::Refused(11, 0);
     }
+    let kind = columns.kind;
+    let begin = columns.begin;
+    let end = columns.end;
     slices::slice_front(n, &kind, &begin, &end, day as u16, out)
 }
 
@@ -64,27 +49,15 @@ pub fn change_days(nodes: &[u8], rules: &[u8], rule: usize, out: &mut [u16]) -> 
     ensures answer { λ r. ⌜ r ≡ changesAnswer (now (nodes .entry)) (now (rules .entry)) rule (now (out .entry)) ⌝ }
     ensures lent { λ r. ⌜ now (out .exit) ≡ changesLent (now (nodes .entry)) (now (rules .entry)) rule (now (out .entry)) ⌝ }
 {
-    let mut kind = [0u8; LIMIT];
-    let mut vkind = [0u8; LIMIT];
-    let mut name = [0u16; LIMIT];
-    let mut parent = [0u16; LIMIT];
-    let mut begin = [0u16; LIMIT];
-    let mut end = [0u16; LIMIT];
-    let mut value = [0i32; LIMIT];
-    let mut item = [0u32; LIMIT];
-    let loaded = nodes::load(
-        nodes,
-        &mut kind,
-        &mut vkind,
-        &mut name,
-        &mut parent,
-        &mut begin,
-        &mut end,
-        &mut value,
-        &mut item,
-    );
+    let columns = nodes::read_columns(nodes);
+    let loaded = columns.loaded;
     let Loaded::Nodes(n) = loaded else {
         return refused(loaded);
     };
+    let kind = columns.kind;
+    let name = columns.name;
+    let parent = columns.parent;
+    let begin = columns.begin;
+    let end = columns.end;
     turning::changes_in_table(n, &kind, &name, &parent, &begin, &end, rules, rule, out)
 }

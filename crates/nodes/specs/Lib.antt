@@ -1,3 +1,4 @@
 -- The definitions that the contracts cite.
 pub mod Filled
 pub mod Loading
+pub mod Unpacking

@@ -9,6 +9,7 @@ ghost use Rattle.meaning.specs.Bytes.{byte, two, four, signed};
 ghost use Rattle.meaning.specs.Block.{nodeForm, recordOf};
 ghost use Rattle.nodes.specs.Filled.{filled, Roomy, Front};
 ghost use Rattle.nodes.specs.Loading.{roomy, Blocked, loading, unpacked};
+ghost use Rattle.nodes.specs.Unpacking.{Unpacks};
 use document::LIMIT;
 
 pub mod fill; // fill.rt: one column, from the records of an image
@@ -196,4 +197,53 @@ pub fn load(
     }
     unpack(image, n, kind, vkind, name, parent, begin, end, value, item);
     Loaded::Nodes(n)
+}
+
+// What came of reading an image, and columns with room for the largest document: where it is accepted, their first entries hold its own.
+pub struct Columns {
+    pub loaded: Loaded,
+    pub kind: [u8; LIMIT],
+    pub vkind: [u8; LIMIT],
+    pub name: [u16; LIMIT],
+    pub parent: [u16; LIMIT],
+    pub begin: [u16; LIMIT],
+    pub end: [u16; LIMIT],
+    pub value: [i32; LIMIT],
+    pub item: [u32; LIMIT],
+}
+
+// An image unpacked into columns of its own, for every byte string. Cost: as `load`.
+pub fn read_columns(image: &[u8]) -> Columns
+    ensures { λ r. ⌜ Unpacks (now (image .entry)) r ⌝ }
+{
+    let mut kind = [0u8; LIMIT];
+    let mut vkind = [0u8; LIMIT];
+    let mut name = [0u16; LIMIT];
+    let mut parent = [0u16; LIMIT];
+    let mut begin = [0u16; LIMIT];
+    let mut end = [0u16; LIMIT];
+    let mut value = [0i32; LIMIT];
+    let mut item = [0u32; LIMIT];
+    let loaded = load(
+        image,
+        &mut kind,
+        &mut vkind,
+        &mut name,
+        &mut parent,
+        &mut begin,
+        &mut end,
+        &mut value,
+        &mut item,
+    );
+    Columns {
+        loaded,
+        kind,
+        vkind,
+        name,
+        parent,
+        begin,
+        end,
+        value,
+        item,
+    }
 }

@@ -1,17 +1,20 @@
 -- The table of an image whose blocks were read: how many rules it has, which of its bytes each is read from, and that those lie in a block.
 use mathlib.Core.Path.{_≡_, refl, sym, ap, _∙_}
-use mathlib.Core.Bool.{true}
+use mathlib.Core.Bool.{true, _||_}
+use mathlib.Core.Logic.{⊎-elim}
 use mathlib.Core.List.{List}
 use Prim.Native.Nat.{ℕ, _<_}
 use native.Mathlib.Nat.{zero-add}
 use native.Mathlib.Omega.{arith}
-use borrow.Author.Tests.{eqb-true}
+use borrow.Author.Tests.{eqb-true, eq-eqb}
 use lib.ListN.{length}
 use Rattle.meaning.specs.declared.Rule.{Rule}
 use Rattle.meaning.specs.declared.Reading.the-variants.{Accepted}
 use Rattle.meaning.specs.Order.{inOrder}
 use Rattle.meaning.specs.Block.{ruleForm, imageTests, records, recordOf}
-use Rattle.meaning.specs.Rules.{isReference, ruleIn, noRule, ruleFields, ruleAt, rulesOf, readRules}
+use Rattle.meaning.specs.Rules.{isKey, isUnique, isReference, ruleIn, noRule, ruleFields, ruleAt, rulesOf, readRules}
+use Rattle.meaning.specs.Answer.{referredBy}
+use Rattle.meaning.proofs.Basics.{or-l, or-r}
 use Rattle.meaning.proofs.RulesSound.{rules-sound}
 use Rattle.meaning.proofs.Tables.{rule-row}
 use Rattle.meaning.proofs.Orders.{then-accepted}
@@ -71,6 +74,17 @@ module _ (image : List ℕ) (a : readRules image ≡ Accepted) (k : ℕ) (h : k 
   module _ {r : Rule} (e : r ≡ ruleAt (rulesOf image) k) where
     pub referred-row : r .kind ≡ 3 → Row image (r .referred)
     referred-row t = rw e (record { blocks = accepted-blocks image a; below = rules-sound image a .referred k h (ap (λ (x : Rule). x .kind) (sym e) ∙ t) .0 })
+
+    -- both fit the table, and what a reference refers to is a key or a unique rule
+    pub fields-of : ruleFields r ≡ true
+    fields-of = rw e accepted-fields
+
+    pub fields-referred : {q : Rule} → (isReference (ruleAt (rulesOf image) k) ≡ true → q ≡ referredBy (rulesOf image) k) → isReference r ≡ true → (ruleFields q ≡ true) × ((isKey q || isUnique q) ≡ true)
+    fields-referred {q} eq t =
+        let y : isReference (ruleAt (rulesOf image) k) ≡ true = ap isReference (sym e) ∙ t in
+        let to = rules-sound image a .referred k h (eqb-true _ 3 y) in
+        let p = referredBy (rulesOf image) k in
+        rw (eq y) (rule-row p .1 (rules-sound image a .table (ruleAt (rulesOf image) k .referred) (to .0)), ⊎-elim (λ one. or-l (isKey p) _ (eq-eqb _ 1 one)) (λ two. or-r (isKey p) _ (eq-eqb _ 2 two)) (to .1))
 
     pub no-reference : (r .kind ≡ 3 → ⊥) → isReference (ruleAt (rulesOf image) k) ≡ true → ⊥
     no-reference n t = n (ap (λ (x : Rule). x .kind) e ∙ eqb-true _ 3 t)

@@ -1,6 +1,6 @@
 -- `bank::refused` meets its contract.
 use mathlib.Core.Path.{sym, ap}
-use Rattle.bank.specs.Whole.{refusedAs}
+use Rattle.bank.specs.Refusing.{refusedAs}
 use borrow.Author.Needs.{needs}
 use Rattle.bank.proofs.refused.Statement.{statement}
 use Rattle.bank.proofs.refused.Tie as tie

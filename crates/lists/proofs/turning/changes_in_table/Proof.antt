@@ -1,7 +1,7 @@
 -- `lists::turning::changes_in_table` meets its contract: a way out for each refusal, and the list.
 use mathlib.Core.Path.{refl, sym, _∙_}
-use Rattle.rules.proofs.Tables.{accepted-row, accepted-fields}
-use Rattle.lists.proofs.Tabling.{table-refused, table-none, table-here, table-windowed, table-listed, table-lent, fields-of, fields-referred}
+use Rattle.rules.proofs.Tables.{accepted-row, fields-of, fields-referred}
+use Rattle.lists.proofs.Tabling.{table-refused, table-none, table-here, table-windowed, table-listed, table-lent}
 use borrow.Author.Needs.{needs}
 use Rattle.lists.proofs.turning.changes_in_table.Statement.{statement}
 use Rattle.lists.proofs.turning.changes_in_table.Tie as tie
@@ -52,7 +52,7 @@ changes-front-requires c κs =
     let a = c .before .before .before .before .before .before .before .before .before .before .before .before .before .before .before .before .before .args in
     let ok = sym (c .before .before .before .before .before .before .before .before .before .read-rules .ensures) ∙ c .before .before .before .before .before .before .before .enum-told .given .1 in
     let here = table-here (a .rules .now) (a .k) ok (c .before .before .before .before .before .before .count-rules .ensures) (c .before .before .before .before .before .if1 .left) in
-    (fields-of (a .rules .now) (a .k) ok here (c .before .before .before .before .rule-at .ensures), fields-referred (a .rules .now) (a .k) ok here (c .before .before .before .before .rule-at .ensures) (c .before .referred-rule .ensures), c .before .before .before .before .before .before .before .before .before .before .before .before .before .before .before .before .before .pre)
+    (fields-of (a .rules .now) ok (a .k) here (c .before .before .before .before .rule-at .ensures), λ e. fields-referred (a .rules .now) ok (a .k) here (c .before .before .before .before .rule-at .ensures) (c .before .referred-rule .ensures) e .0, c .before .before .before .before .before .before .before .before .before .before .before .before .before .before .before .before .before .pre)
 
 same-length : tie.Need-same-length
 same-length c = search needs

@@ -1,0 +1,338 @@
+-- The laws behind the theorems about the public calls: tests in their order, the ways of a verdict, what a list is stored as, what fits a verdict.
+use mathlib.Core.Path.{_≡_, refl, sym, ap, ap₂, _∙_}
+use mathlib.Core.Logic.{_↔_, _⊎_, inl, inr, ⊎-elim}
+use mathlib.Core.Bool.{Bool, true, false, _&&_, cond}
+use mathlib.Core.List.{List, [], _∷_, _++_}
+use Prim.Native.Nat.{ℕ, suc, _+_, _≤_, _<_}
+use native.Mathlib.Omega.{arith}
+use lib.Dec.{leb, ltb}
+use lib.ListN.{length, drop}
+use borrow.Author.Tests.{leb-true, le-leb, lt-leb, lt-ltb, le-ltb, ne-eqb}
+use Rattle.meaning.specs.declared.Found.{Found}
+use Rattle.meaning.specs.declared.Found.the-variants.{At, Nothing}
+use Rattle.meaning.specs.declared.Rule.{Rule}
+use Rattle.meaning.specs.declared.Reading.{Reading}
+use Rattle.meaning.specs.declared.Reading.the-variants.{Accepted, Refused}
+use Rattle.meaning.specs.declared.Verdict.{Verdict}
+use Rattle.meaning.specs.declared.Verdict.the-variants.{Holds, Fails, Refused as Unjudged}
+use Rattle.meaning.specs.declared.Listed.{Listed}
+use Rattle.meaning.specs.declared.Listed.the-variants.{Stored, Refused as Unlisted}
+use Rattle.meaning.specs.Order.{need, andThen, earliest, Test, inOrder}
+use Rattle.meaning.specs.Block.{nodeForm, ruleForm, imageTests}
+use Rattle.meaning.specs.Document.{Doc}
+use Rattle.meaning.specs.Nodes.{docOf, documentTests, accept, readNodes}
+use Rattle.meaning.specs.Rules.{isSequenced, ruleAt, rulesOf, tableTests, readRules}
+use Rattle.meaning.specs.Day.{alive, slice, onDays}
+use Rattle.meaning.specs.Window.{Window, meets, offendsIn, offenderIn, windows, judge, inWindows}
+use Rattle.meaning.specs.Answer.{referredBy, judged, verdictAfter, readVerdict, verdict, storing, lentAfter, readSlice, readChanges, changesOf}
+use Rattle.meaning.proofs.Basics.{went, clear}
+use Rattle.meaning.proofs.Orders.{Earliest, contrary, came, refusal-earliest}
+use Rattle.meaning.proofs.Says.{says}
+use Rattle.meaning.proofs.Refusals.{earliest-refusal}
+use Rattle.meaning.proofs.Sound.{Sound}
+use Rattle.meaning.proofs.Walks.{first-none, first-at}
+use Rattle.meaning.proofs.Places.{counted}
+use Rattle.meaning.proofs.Picks.{In, in-picked, picked-in}
+use Rattle.meaning.proofs.Slices.{Lives, lives, alive-lives, slice-alive}
+use Rattle.meaning.proofs.Faults.{FirstFault, on-days, holds-none, fails-first}
+use Rattle.meaning.proofs.Windows.{NoFaultIn, NoFaultAmong, FirstFaultIn}
+
+-- one test, at one place
+abbrev single : Bool → ℕ → Test
+single t number = record { places = 1; at = need t number }
+
+-- one equivalence after the other
+pub through : {A B C : Type 0} → A ↔ B → B ↔ C → A ↔ C
+through f g = (λ a. g .0 (f .0 a), λ c. f .1 (g .1 c))
+
+-- Tests in their order.
+then-assoc : (a b c : Reading) → andThen a (andThen b c) ≡ andThen (andThen a b) c
+then-assoc Accepted b c = refl
+then-assoc (Refused k i) b c = refl
+
+order-append : (ts us : List Test) → inOrder (ts ++ us) ≡ andThen (inOrder ts) (inOrder us)
+unfolding inOrder
+order-append [] us = refl
+order-append (t ∷ ts) us =
+    ap (andThen (earliest (t .at) 0 (t .places))) (order-append ts us) ∙ then-assoc (earliest (t .at) 0 (t .places)) (inOrder ts) (inOrder us)
+
+order-single : (t : Bool) (n : ℕ) (ts : List Test) → inOrder (single t n ∷ ts) ≡ andThen (need t n 0) (inOrder ts)
+unfolding inOrder earliest
+order-single true n ts = refl
+order-single false n ts = refl
+
+order-last : (t : Bool) (n : ℕ) → inOrder (single t n ∷ []) ≡ need t n 0
+unfolding inOrder earliest
+order-last true n = refl
+order-last false n = refl
+
+order-two : (t u : Bool) (n m : ℕ) → inOrder (single t n ∷ single u m ∷ []) ≡ andThen (need t n 0) (need u m 0)
+order-two t u n m = order-single t n (single u m ∷ []) ∙ ap (andThen (need t n 0)) (order-last u m)
+
+-- refused by tests in their order: at the lowest place of the earliest one
+pub refused-exactly : (ts : List Test) {x : Reading} → inOrder ts ≡ x → (a b : ℕ) → (x ≡ Refused a b) ↔ Earliest a b ts
+refused-exactly ts e a b = (λ r. refusal-earliest ts a b (e ∙ r), λ w. sym e ∙ earliest-refusal a b w)
+
+-- The ways of a verdict.
+-- a verdict that holds or fails
+abbrev Answered : Verdict → Type 0
+Answered x = ((n : ℕ) × (x ≡ Holds n)) ⊎ ((d : ℕ) × (v : ℕ) × (n : ℕ) × (x ≡ Fails d v n))
+
+judge-answers : (f : Window → Found) (ws : List Window) (k : ℕ) → Answered (judge f ws k)
+unfolding judge
+judge-answers f [] k = inl (k, refl)
+judge-answers f (w ∷ ws) k = go (f w) refl (judge-answers f ws (suc k))
+  where
+    go : (x : Found) → f w ≡ x → Answered (judge f ws (suc k)) → Answered (judge f (w ∷ ws) k)
+    go (At v) e ih = inr (w .from, v, suc k, rw e)
+    go Nothing e ih = rw e ih
+
+pub windows-answer : (doc : Doc) (q r : Rule) → Answered (inWindows doc q r)
+unfolding inWindows
+windows-answer doc q r = judge-answers (offenderIn doc q r) (windows r) 0
+
+pub days-answer : (doc : Doc) (q r : Rule) → Answered (onDays doc q r)
+days-answer doc q r = ⊎-elim (λ w. inl (_, w .1)) (λ w. inr (_, _, _, w .verdict)) (on-days doc q r)
+
+judged-answers : (doc : Doc) (q r : Rule) → Answered (judged doc q r)
+unfolding judged
+judged-answers doc q r = ⊎-elim (λ e. rw e (days-answer doc q r)) (λ e. rw e (windows-answer doc q r)) (went (isSequenced r))
+
+answered-not-refused : {x : Verdict} → Answered x → {a b : ℕ} → x ≡ Unjudged a b → ⊥
+answered-not-refused (inl w) e = let p = w .1 in let z : _≡_ {A = ℕ} 0 1 = cc in omega arith
+answered-not-refused (inr w) e = let p = w .3 in let z : _≡_ {A = ℕ} 0 1 = cc in omega arith
+
+-- a verdict is refused exactly where the reading before it was
+after-refused : (x : Reading) {y : Verdict} → Answered y → (a b : ℕ) → (verdictAfter x y ≡ Unjudged a b) ↔ (x ≡ Refused a b)
+after-refused Accepted w a b = (λ e. absurd (answered-not-refused w e), λ e. absurd (contrary refl e))
+after-refused (Refused k i) w a b = (λ e. let p : k ≡ a = cc in let q : i ≡ b = cc in ap₂ Refused p q, λ e. let p : k ≡ a = cc in let q : i ≡ b = cc in ap₂ Unjudged p q)
+
+-- What a list is stored as.
+module _ (list lent : List ℕ) where
+  -- refused by the reading before it, or by 12
+  storing-refused : (x : Reading) (a b : ℕ) → (storing x list lent ≡ Unlisted a b) ↔ (andThen x (need (leb (length list) (length lent)) 12 0) ≡ Refused a b)
+  unfolding storing
+  storing-refused (Refused k i) a b = (λ e. let p : k ≡ a = cc in let q : i ≡ b = cc in ap₂ Refused p q, λ e. let p : k ≡ a = cc in let q : i ≡ b = cc in ap₂ Unlisted p q)
+  storing-refused Accepted a b = go (leb (length list) (length lent))
+    where
+      go : (t : Bool) → (cond t (Stored (length list)) (Unlisted 12 0) ≡ Unlisted a b) ↔ (need t 12 0 ≡ Refused a b)
+      go true = (λ e. let z : _≡_ {A = ℕ} 0 1 = cc in absurd (omega arith), λ e. absurd (contrary refl e))
+      go false = (λ e. let p : 12 ≡ a = cc in let q : 0 ≡ b = cc in ap₂ Refused p q, λ e. let p : 12 ≡ a = cc in let q : 0 ≡ b = cc in ap₂ Unlisted p q)
+
+  -- stored: the reading accepted, and there is room
+  storing-stored : (x : Reading) (n : ℕ) → storing x list lent ≡ Stored n → (x ≡ Accepted) × (n ≡ length list) × (n ≤ length lent)
+  unfolding storing
+  storing-stored (Refused k i) n e = let z : _≡_ {A = ℕ} 0 1 = cc in absurd (omega arith)
+  storing-stored Accepted n e = go (leb (length list) (length lent)) refl e
+    where
+      go : (t : Bool) → leb (length list) (length lent) ≡ t → cond t (Stored (length list)) (Unlisted 12 0) ≡ Stored n → (Accepted ≡ Accepted) × (n ≡ length list) × (n ≤ length lent)
+      go true h e = let p : length list ≡ n = cc in (refl, sym p, omega (arith, leb-true (length list) (length lent) h))
+      go false h e = let z : _≡_ {A = ℕ} 0 1 = cc in absurd (omega arith)
+
+  storing-room : {x : Reading} → x ≡ Accepted → length list ≤ length lent → storing x list lent ≡ Stored (length list)
+  unfolding storing
+  storing-room e h = rw (e, le-leb (length list) (length lent) h)
+
+-- the answer of a call that stores a list, and the list afterwards
+module _ (before : Reading) (list lent : List ℕ) {x : Listed} {after : List ℕ} (e : x ≡ storing before list lent) (l : after ≡ lentAfter (storing before list lent) list lent) where
+  pub listed-refused : (a b : ℕ) → (x ≡ Unlisted a b) ↔ (andThen before (need (leb (length list) (length lent)) 12 0) ≡ Refused a b)
+  listed-refused a b = let w = storing-refused list lent before a b in (λ h. w .0 (sym e ∙ h), λ h. e ∙ w .1 h)
+
+  pub listed-stored : (n : ℕ) → x ≡ Stored n → (before ≡ Accepted) × (n ≡ length list) × (n ≤ length lent)
+  listed-stored n h = storing-stored list lent before n (sym e ∙ h)
+
+  pub listed-room : before ≡ Accepted → length list ≤ length lent → x ≡ Stored (length list)
+  listed-room a h = e ∙ storing-room list lent a h
+
+  pub listed-short : before ≡ Accepted → length lent < length list → x ≡ Unlisted 12 0
+  listed-short a h = listed-refused 12 0 .1 (rw (a, lt-leb (length list) (length lent) h))
+
+  pub listed-early : (a b : ℕ) → before ≡ Refused a b → x ≡ Unlisted a b
+  listed-early a b h = listed-refused a b .1 (rw h)
+
+  pub listed-kept : (a b : ℕ) → x ≡ Unlisted a b → after ≡ lent
+  listed-kept a b h = l ∙ ap (λ y. lentAfter y list lent) (sym e ∙ h)
+
+  pub listed-filled : (n : ℕ) → x ≡ Stored n → after ≡ list ++ drop n lent
+  listed-filled n h = l ∙ ap (λ y. lentAfter y list lent) (sym e ∙ h)
+
+-- The tests of each call are its reading.
+-- those of a node image, and of a node image and a rule image
+abbrev nodeTests : List ℕ → List Test
+nodeTests nodes = imageTests nodeForm nodes ++ documentTests (docOf nodes)
+
+abbrev bothTests : List ℕ → List ℕ → List Test
+bothTests nodes rules = nodeTests nodes ++ imageTests ruleForm rules ++ tableTests rules (rulesOf rules)
+
+nodes-order : (nodes : List ℕ) → inOrder (nodeTests nodes) ≡ readNodes nodes
+unfolding readNodes accept
+nodes-order nodes = order-append (imageTests nodeForm nodes) (documentTests (docOf nodes))
+
+both-order : (nodes rules : List ℕ) → inOrder (bothTests nodes rules) ≡ andThen (readNodes nodes) (readRules rules)
+unfolding readRules
+both-order nodes rules =
+    let images = inOrder (imageTests ruleForm rules) in
+    let tables = inOrder (tableTests rules (rulesOf rules)) in
+    order-append (nodeTests nodes ++ imageTests ruleForm rules) (tableTests rules (rulesOf rules))
+    ∙ ap (λ y. andThen y tables) (order-append (nodeTests nodes) (imageTests ruleForm rules) ∙ ap (λ y. andThen y images) (nodes-order nodes))
+    ∙ sym (then-assoc (readNodes nodes) images tables)
+
+-- and tests after these
+after-nodes : (nodes : List ℕ) (ts : List Test) → inOrder (nodeTests nodes ++ ts) ≡ andThen (readNodes nodes) (inOrder ts)
+after-nodes nodes ts = order-append (nodeTests nodes) ts ∙ ap (λ y. andThen y (inOrder ts)) (nodes-order nodes)
+
+after-both : (nodes rules : List ℕ) (ts : List Test) → inOrder (bothTests nodes rules ++ ts) ≡ andThen (readNodes nodes) (andThen (readRules rules) (inOrder ts))
+after-both nodes rules ts =
+    order-append (bothTests nodes rules) ts ∙ ap (λ y. andThen y (inOrder ts)) (both-order nodes rules)
+    ∙ sym (then-assoc (readNodes nodes) (readRules rules) (inOrder ts))
+
+-- The verdict of two images and a rule number.
+module _ (nodes rules : List ℕ) (k : ℕ) where
+  abbrev here : Bool
+  here = ltb k (length (rulesOf rules))
+
+  pub verdict-order : inOrder (bothTests nodes rules ++ single here 11 ∷ []) ≡ readVerdict nodes rules k
+  unfolding readVerdict
+  verdict-order = after-both nodes rules (single here 11 ∷ []) ∙ ap (λ y. andThen (readNodes nodes) (andThen (readRules rules) y)) (order-last here 11)
+
+  pub verdict-read : (readVerdict nodes rules k ≡ Accepted) ↔ ((readNodes nodes ≡ Accepted) × ((readRules rules ≡ Accepted) × (k < length (rulesOf rules))))
+  unfolding readVerdict
+  verdict-read = (λ e. simp says at e, λ w. simp says w)
+
+  module _ {x : Verdict} (e : x ≡ verdict nodes rules k) where
+    pub verdict-as-read : (a b : ℕ) → (x ≡ Unjudged a b) ↔ (readVerdict nodes rules k ≡ Refused a b)
+    unfolding verdict
+    verdict-as-read a b =
+        let w = after-refused (readVerdict nodes rules k) (judged-answers (docOf nodes) (referredBy (rulesOf rules) k) (ruleAt (rulesOf rules) k)) a b in
+        (λ h. w .0 (sym e ∙ h), λ h. e ∙ w .1 h)
+
+    pub verdict-nodes : (a b : ℕ) → readNodes nodes ≡ Refused a b → x ≡ Unjudged a b
+    unfolding readVerdict
+    verdict-nodes a b h = verdict-as-read a b .1 (rw h)
+
+    pub verdict-rules : readNodes nodes ≡ Accepted → (a b : ℕ) → readRules rules ≡ Refused a b → x ≡ Unjudged a b
+    unfolding readVerdict
+    verdict-rules n a b h = verdict-as-read a b .1 (rw (n, h))
+
+    pub verdict-none : readNodes nodes ≡ Accepted → readRules rules ≡ Accepted → length (rulesOf rules) ≤ k → x ≡ Unjudged 11 0
+    unfolding readVerdict
+    verdict-none n r h = verdict-as-read 11 0 .1 (rw (n, r, le-ltb k (length (rulesOf rules)) h))
+
+    pub verdict-as-judged : readVerdict nodes rules k ≡ Accepted → x ≡ judged (docOf nodes) (referredBy (rulesOf rules) k) (ruleAt (rulesOf rules) k)
+    unfolding verdict
+    verdict-as-judged h = e ∙ rw h
+
+    -- it is not refused exactly where the reading accepts
+    pub verdict-given : ((a b : ℕ) → x ≡ Unjudged a b → ⊥) ↔ (readVerdict nodes rules k ≡ Accepted)
+    verdict-given = (
+      λ w. ⊎-elim (λ a. a) (λ r. absurd (w (r .0) (r .1) (verdict-as-read (r .0) (r .1) .1 (r .2)))) (came (readVerdict nodes rules k)),
+      λ h a b r. contrary h (verdict-as-read a b .0 r),
+    )
+
+-- The slice of a node image.
+module _ (nodes : List ℕ) (d : ℕ) where
+  pub slice-order : (lent : List ℕ)
+      → inOrder (nodeTests nodes ++ single (leb d 36524) 11 ∷ single (leb (length (slice (docOf nodes) d)) (length lent)) 12 ∷ []) ≡ andThen (readSlice nodes d) (need (leb (length (slice (docOf nodes) d)) (length lent)) 12 0)
+  unfolding readSlice
+  slice-order lent =
+      let room = leb (length (slice (docOf nodes) d)) (length lent) in
+      after-nodes nodes (single (leb d 36524) 11 ∷ single room 12 ∷ []) ∙ ap (andThen (readNodes nodes)) (order-two (leb d 36524) room 11 12)
+      ∙ then-assoc (readNodes nodes) (need (leb d 36524) 11 0) (need room 12 0)
+
+  pub slice-read : (readSlice nodes d ≡ Accepted) ↔ ((readNodes nodes ≡ Accepted) × (d ≤ 36524))
+  unfolding readSlice
+  slice-read = (λ e. simp says at e, λ w. simp says w)
+
+  pub slice-read-nodes : (a b : ℕ) → readNodes nodes ≡ Refused a b → readSlice nodes d ≡ Refused a b
+  unfolding readSlice
+  slice-read-nodes a b h = rw h
+
+  pub slice-read-late : readNodes nodes ≡ Accepted → 36524 < d → readSlice nodes d ≡ Refused 11 0
+  unfolding readSlice
+  slice-read-late n h = rw (n, lt-leb d 36524 h)
+
+-- The change days of a rule of two images.
+module _ (nodes rules : List ℕ) (k : ℕ) where
+  abbrev sequenced-here : Bool
+  sequenced-here = ltb k (length (rulesOf rules)) && isSequenced (ruleAt (rulesOf rules) k)
+
+  pub changes-order : (lent : List ℕ)
+      → inOrder (bothTests nodes rules ++ single sequenced-here 11 ∷ single (leb (length (changesOf nodes rules k)) (length lent)) 12 ∷ []) ≡ andThen (readChanges nodes rules k) (need (leb (length (changesOf nodes rules k)) (length lent)) 12 0)
+  unfolding readChanges
+  changes-order lent =
+      let room = leb (length (changesOf nodes rules k)) (length lent) in
+      let last = need room 12 0 in
+      after-both nodes rules (single sequenced-here 11 ∷ single room 12 ∷ [])
+      ∙ ap (λ y. andThen (readNodes nodes) (andThen (readRules rules) y)) (order-two sequenced-here room 11 12)
+      ∙ ap (andThen (readNodes nodes)) (then-assoc (readRules rules) (need sequenced-here 11 0) last)
+      ∙ then-assoc (readNodes nodes) (andThen (readRules rules) (need sequenced-here 11 0)) last
+
+  pub changes-read : (readChanges nodes rules k ≡ Accepted) ↔ ((readNodes nodes ≡ Accepted) × ((readRules rules ≡ Accepted) × ((k < length (rulesOf rules)) × (ruleAt (rulesOf rules) k .windowed ≡ 0))))
+  unfolding readChanges
+  changes-read = (λ e. simp says at e, λ w. simp says w)
+
+  pub changes-read-nodes : (a b : ℕ) → readNodes nodes ≡ Refused a b → readChanges nodes rules k ≡ Refused a b
+  unfolding readChanges
+  changes-read-nodes a b h = rw h
+
+  pub changes-read-rules : readNodes nodes ≡ Accepted → (a b : ℕ) → readRules rules ≡ Refused a b → readChanges nodes rules k ≡ Refused a b
+  unfolding readChanges
+  changes-read-rules n a b h = rw (n, h)
+
+  pub changes-read-none : readNodes nodes ≡ Accepted → readRules rules ≡ Accepted → length (rulesOf rules) ≤ k → readChanges nodes rules k ≡ Refused 11 0
+  unfolding readChanges
+  changes-read-none n r h = rw (n, r, le-ltb k (length (rulesOf rules)) h)
+
+  pub changes-read-windowed : readNodes nodes ≡ Accepted → readRules rules ≡ Accepted → k < length (rulesOf rules) → (ruleAt (rulesOf rules) k .windowed ≡ 0 → ⊥) → readChanges nodes rules k ≡ Refused 11 0
+  unfolding readChanges
+  changes-read-windowed n r h w = rw (n, r, lt-ltb k (length (rulesOf rules)) h, ne-eqb (ruleAt (rulesOf rules) k .windowed) 0 w)
+
+-- What a verdict shows is the only thing that fits.
+module _ (doc : Doc) (q r : Rule) where
+  -- there is one first day with an offender, and one lowest offender of it
+  fault-unique : {d v c u : ℕ} → FirstFault doc q r d v → FirstFault doc q r c u → (d ≡ c) × (v ≡ u)
+  fault-unique {d} {v} {c} {u} f g =
+      let not-before : d < c → ⊥ = λ h. clear (f .offence) (g .first-day d v (f .from) h (f .here)) in
+      let not-after : c < d → ⊥ = λ h. clear (g .offence) (f .first-day c u (g .from) h (g .here)) in
+      let same : d ≡ c = omega arith in
+      let not-lower : v < u → ⊥ = λ h. clear (f .offence) (rw same (g .lowest v h)) in
+      let not-higher : u < v → ⊥ = λ h. clear (g .offence) (rw (sym same) (f .lowest u h)) in
+      (same, omega arith)
+
+  pub first-fails : (d v : ℕ) → FirstFault doc q r d v → (n : ℕ) × (onDays doc q r ≡ Fails d v n)
+  first-fails d v f =
+      ⊎-elim
+      (λ w. absurd (clear (f .offence) (holds-none doc q r (w .0) (w .1) .0 d v (f .from) (f .below) (f .here))))
+      (λ w.
+      let s = fault-unique (fails-first doc q r (w .0) (w .1) (w .2) (w .3) .0) f in
+      (w .2, w .3 ∙ ap₂ (λ (c u : ℕ). Fails c u (w .2)) (s .0) (s .1)))
+      (days-answer doc q r)
+
+  none-in : (w : Window) → NoFaultIn doc q r w → offenderIn doc q r w ≡ Nothing
+  unfolding offenderIn
+  none-in w h = first-none (offendsIn doc (meets doc w) q r) 0 (doc .size) (λ v a b. h v (omega arith))
+
+  -- windows without an offender are passed over, up to one that has
+  judge-split : (before : List Window) (w : Window) (after : List Window) (k v : ℕ) → NoFaultAmong doc q r before → offenderIn doc q r w ≡ At v
+      → judge (offenderIn doc q r) (before ++ w ∷ after) k ≡ Fails (w .from) v (suc (length before + k))
+  unfolding judge
+  judge-split [] w after k v none e = rw e (ap (Fails (w .from) v) (omega arith))
+  judge-split (b ∷ bs) w after k v none e =
+      let clear-window : offenderIn doc q r b ≡ Nothing = none-in b (none .0) in
+      rw clear-window (judge-split bs w after (suc k) v (none .1) e ∙ ap (Fails (w .from) v) (omega arith))
+
+  pub first-fails-in : (d v n : ℕ) → FirstFaultIn doc q r d v n → inWindows doc q r ≡ Fails d v n
+  unfolding inWindows offenderIn
+  first-fails-in d v n f =
+      let w = f .window in
+      let e : offenderIn doc q r w ≡ At v = first-at (offendsIn doc (meets doc w) q r) v 0 (doc .size) (omega arith) (omega (arith, f .here)) (f .offence) (λ u a b. f .lowest u b) in
+      ap (λ ws. judge (offenderIn doc q r) ws 0) (f .split) ∙ judge-split (f .before) w (f .after) 0 v (f .first-window) e
+      ∙ ap₂ (λ (c m : ℕ). Fails c v m) (f .start) (omega (arith, f .counted))
+
+-- The slice of a sound document.
+pub alive-listed : (doc : Doc) → Sound doc → (d v : ℕ) → In (slice doc d) v ↔ Lives doc d v
+alive-listed doc s d v =
+    rw (slice-alive doc s d) (
+      λ w. lives doc d v (in-picked (alive doc d) 0 (doc .size) v w .passes),
+      λ l. picked-in (alive doc d) 0 (doc .size) v (record { from = omega arith; below = omega (arith, counted doc v (omega (arith, l .kind))); passes = alive-lives doc d v l }),
+    )

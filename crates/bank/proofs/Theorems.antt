@@ -1,0 +1,375 @@
+-- The three demands as theorems about the public calls `verdict`, `slice` and `change_days`, each statement to be read by itself.
+use mathlib.Core.Path.{_≡_, refl, sym, _∙_}
+use mathlib.Core.Logic.{_↔_, _⊎_}
+use mathlib.Core.Bool.{_&&_}
+use mathlib.Core.List.{List, [], _∷_, _++_}
+use Prim.Native.Nat.{ℕ, _+_, _*_, _≤_, _<_}
+use native.Mathlib.Omega.{arith}
+use lib.Dec.{leb, ltb}
+use lib.ListN.{length, drop}
+use Rattle.meaning.specs.declared.Rule.{Rule}
+use Rattle.meaning.specs.declared.Reading.the-variants.{Accepted, Refused}
+use Rattle.meaning.specs.declared.Verdict.{Verdict}
+use Rattle.meaning.specs.declared.Verdict.the-variants.{Holds, Fails, Refused as Unjudged}
+use Rattle.meaning.specs.declared.Listed.{Listed}
+use Rattle.meaning.specs.declared.Listed.the-variants.{Stored, Refused as Unlisted}
+use Rattle.meaning.specs.Order.{need, andThen, Test}
+use Rattle.meaning.specs.Block.{nodeForm, ruleForm, imageTests}
+use Rattle.meaning.specs.Document.{Doc}
+use Rattle.meaning.specs.Nodes.{docOf, documentTests, readNodes}
+use Rattle.meaning.specs.Rules.{isSequenced, ruleAt, rulesOf, tableTests, readRules}
+use Rattle.meaning.specs.Walk.{count, pick}
+use Rattle.meaning.specs.Select.{reads}
+use Rattle.meaning.specs.Day.{alive, slice, offender, onDays}
+use Rattle.meaning.specs.Window.{windows}
+use Rattle.meaning.specs.Answer.{tellVerdict, tellListed, referredBy, judged, verdict, readVerdict, sliceAnswer, sliceLent, readSlice, changesOf, changesAnswer, changesLent, readChanges}
+use Rattle.meaning.proofs.Unique as Unique
+use Rattle.meaning.proofs.Sound.{SoundNodes, SoundRules}
+use Rattle.meaning.proofs.Orders.{Earliest}
+use Rattle.meaning.proofs.Theorems.{nodes-accepted, rules-accepted, fails-on-days, fails-in-windows, enough-days}
+use Rattle.meaning.proofs.Accepted.{sound-accepted}
+use Rattle.meaning.proofs.Picks.{Ascending, In, pick-ascends}
+use Rattle.meaning.proofs.Slices.{Lives}
+use Rattle.meaning.proofs.Over.{over}
+use Rattle.meaning.proofs.Changes.{ChangeDay, At-place}
+use Rattle.meaning.proofs.Faults.{NoFault, FirstFault}
+use Rattle.meaning.proofs.Windows.{NoFaultAmong, FirstFaultIn}
+use Rattle.meaning.proofs.Slices as Slices
+use Rattle.meaning.proofs.Faults as Faults
+use Rattle.meaning.proofs.Windows as Windows
+use Rattle.judging.proofs.Modes.{judged-days, judged-windows}
+use Rattle.bank.proofs.Calls as Calls
+
+-- What the calls promise, word for word as the `ensures` of src/lib.rt: the images are lists of bytes, k is a rule number, d a day, `lent` the
+-- list as it was lent and `after` the list afterwards. Every theorem is about each answer x, and each list, that a promise allows.
+abbrev pub VerdictPromise : List ℕ → List ℕ → ℕ → Verdict → Type 0
+VerdictPromise nodes rules k x = tellVerdict x ≡ tellVerdict (verdict nodes rules k)
+
+abbrev pub SlicePromise : List ℕ → ℕ → List ℕ → Listed → List ℕ → Type 0
+SlicePromise nodes d lent x after = (tellListed x ≡ tellListed (sliceAnswer nodes d lent)) × (after ≡ sliceLent nodes d lent)
+
+abbrev pub ChangesPromise : List ℕ → List ℕ → ℕ → List ℕ → Listed → List ℕ → Type 0
+ChangesPromise nodes rules k lent x after = (tellListed x ≡ tellListed (changesAnswer nodes rules k lent)) × (after ≡ changesLent nodes rules k lent)
+
+-- 0. What a promise allows is one result. Two answers that `verdict` may give are equal.
+pub verdict-unique : (nodes rules : List ℕ) (k : ℕ) (x y : Verdict) → VerdictPromise nodes rules k x → VerdictPromise nodes rules k y → x ≡ y
+verdict-unique nodes rules k x y p q = Unique.verdict-unique x y (p ∙ sym q)
+
+-- Two answers that `slice` may give are equal, and so are two lists that it may leave.
+pub slice-unique : (nodes : List ℕ) (d : ℕ) (lent : List ℕ) (x y : Listed) (after other : List ℕ)
+    → SlicePromise nodes d lent x after → SlicePromise nodes d lent y other → (x ≡ y) × (after ≡ other)
+slice-unique nodes d lent x y after other p q = (Unique.listed-unique x y (p .0 ∙ sym (q .0)), p .1 ∙ sym (q .1))
+
+-- The same for `change_days`.
+pub changes-unique : (nodes rules : List ℕ) (k : ℕ) (lent : List ℕ) (x y : Listed) (after other : List ℕ)
+    → ChangesPromise nodes rules k lent x after → ChangesPromise nodes rules k lent y other → (x ≡ y) × (after ≡ other)
+changes-unique nodes rules k lent x y after other p q = (Unique.listed-unique x y (p .0 ∙ sym (q .0)), p .1 ∙ sym (q .1))
+
+-- 1. Demand 1: every image, however damaged, gets an answer, bad input is refused by number and place, and a refusal changes no lent list.
+-- `verdict` has an answer for every pair of images and every rule number, with nothing asked of them.
+pub verdict-answers : (nodes rules : List ℕ) (k : ℕ) → (x : Verdict) × VerdictPromise nodes rules k x
+verdict-answers nodes rules k = (_, refl)
+
+-- So has `slice`, for every image, day and lent list, ..
+pub slice-answers : (nodes : List ℕ) (d : ℕ) (lent : List ℕ) → (x : Listed) × (after : List ℕ) × SlicePromise nodes d lent x after
+slice-answers nodes d lent = (_, _, (refl, refl))
+
+-- .. and `change_days`, for every pair of images, rule number and lent list.
+pub changes-answers : (nodes rules : List ℕ) (k : ℕ) (lent : List ℕ) → (x : Listed) × (after : List ℕ) × ChangesPromise nodes rules k lent x after
+changes-answers nodes rules k lent = (_, _, (refl, refl))
+
+-- The tests of each call, in the order of 01: a test is how many places it looks at and what it says at each.
+abbrev pub imagesTests : List ℕ → List ℕ → List Test
+imagesTests nodes rules = imageTests nodeForm nodes ++ documentTests (docOf nodes) ++ imageTests ruleForm rules ++ tableTests rules (rulesOf rules)
+
+abbrev pub verdictTests : List ℕ → List ℕ → ℕ → List Test
+verdictTests nodes rules k = imagesTests nodes rules ++ record { places = 1; at = need (ltb k (length (rulesOf rules))) 11 } ∷ []
+
+abbrev pub sliceTests : List ℕ → ℕ → List ℕ → List Test
+sliceTests nodes d lent =
+    imageTests nodeForm nodes ++ documentTests (docOf nodes) ++ record { places = 1; at = need (leb d 36524) 11 }
+    ∷ record { places = 1; at = need (leb (length (slice (docOf nodes) d)) (length lent)) 12 }
+    ∷ []
+
+abbrev pub changesTests : List ℕ → List ℕ → ℕ → List ℕ → List Test
+changesTests nodes rules k lent =
+    imagesTests nodes rules ++ record { places = 1; at = need (ltb k (length (rulesOf rules)) && isSequenced (ruleAt (rulesOf rules) k)) 11 }
+    ∷ record { places = 1; at = need (leb (length (changesOf nodes rules k)) (length lent)) 12 }
+    ∷ []
+
+-- both images are sound, and rule k stands in the table
+pub record Answerable (nodes rules : List ℕ) (k : ℕ) : Type 0 where
+  pub nodes-sound : SoundNodes nodes
+  pub rules-sound : SoundRules rules
+  pub in-table : k < length (rulesOf rules)
+
+-- which is what their reading accepts
+answerable : (nodes rules : List ℕ) (k : ℕ) → (readVerdict nodes rules k ≡ Accepted) ↔ Answerable nodes rules k
+answerable nodes rules k = (
+  λ e. let s = Calls.verdict-read nodes rules k .0 e in record { nodes-sound = nodes-accepted nodes .0 (s .0); rules-sound = rules-accepted rules .0 (s .1 .0); in-table = s .1 .1 },
+  λ w. Calls.verdict-read nodes rules k .1 (nodes-accepted nodes .1 (w .nodes-sound), (rules-accepted rules .1 (w .rules-sound), w .in-table)),
+)
+
+-- a rule is sequenced (01: byte 1 is 0)
+abbrev pub Sequenced : Rule → Type 0
+Sequenced r = r .windowed ≡ 0
+
+-- n numbers are stored from the start of the lent list, those of `list` in its order, and nothing past them
+pub record Filled (list : List ℕ) (n : ℕ) (lent after : List ℕ) : Type 0 where
+  pub count : n ≡ length list
+  pub room : n ≤ length lent
+  pub entries : after ≡ list ++ drop n lent
+
+-- What `verdict` refuses, and how; x is its answer.
+pub record VerdictRefusals (nodes rules : List ℕ) (k : ℕ) (x : Verdict) : Type 0 where
+  -- refused with number a and place b exactly when these are of the earliest test that fails, at its lowest place
+  pub exactly : (a b : ℕ) → (x ≡ Unjudged a b) ↔ Earliest a b (verdictTests nodes rules k)
+  -- so it is refused as the reading of images and rule number is
+  pub as-read : (a b : ℕ) → (x ≡ Unjudged a b) ↔ (readVerdict nodes rules k ≡ Refused a b)
+  -- not refused exactly when both images are sound and there is such a rule
+  pub given : ((a b : ℕ) → x ≡ Unjudged a b → ⊥) ↔ Answerable nodes rules k
+  -- the node image's refusal comes first, ..
+  pub nodes-first : (a b : ℕ) → readNodes nodes ≡ Refused a b → x ≡ Unjudged a b
+  -- .. then the rule image's, ..
+  pub rules-next : SoundNodes nodes → (a b : ℕ) → readRules rules ≡ Refused a b → x ≡ Unjudged a b
+  -- .. then 11 where there is no such rule
+  pub no-such-rule : SoundNodes nodes → SoundRules rules → length (rulesOf rules) ≤ k → x ≡ Unjudged 11 0
+
+-- Each answer that `verdict` may give is refused so.
+pub verdict-refusals : (nodes rules : List ℕ) (k : ℕ) (x : Verdict) → VerdictPromise nodes rules k x → VerdictRefusals nodes rules k x
+verdict-refusals nodes rules k x p =
+    let e = Unique.verdict-unique x (verdict nodes rules k) p in
+    record {
+      exactly = λ a b. Calls.through (Calls.verdict-as-read nodes rules k e a b) (Calls.refused-exactly (verdictTests nodes rules k) (Calls.verdict-order nodes rules k) a b);
+      as-read = Calls.verdict-as-read nodes rules k e;
+      given = Calls.through (Calls.verdict-given nodes rules k e) (answerable nodes rules k);
+      nodes-first = Calls.verdict-nodes nodes rules k e;
+      rules-next = λ n. Calls.verdict-rules nodes rules k e (nodes-accepted nodes .1 n);
+      no-such-rule = λ n r. Calls.verdict-none nodes rules k e (nodes-accepted nodes .1 n) (rules-accepted rules .1 r);
+    }
+
+-- What `slice` refuses, and how; x is its answer and `after` the lent list afterwards.
+pub record SliceRefusals (nodes : List ℕ) (d : ℕ) (lent : List ℕ) (x : Listed) (after : List ℕ) : Type 0 where
+  -- refused with number a and place b exactly when these are of the earliest test that fails, at its lowest place
+  pub exactly : (a b : ℕ) → (x ≡ Unlisted a b) ↔ Earliest a b (sliceTests nodes d lent)
+  -- so it is refused as the reading of image and day is, or else for want of room
+  pub as-read : (a b : ℕ) → (x ≡ Unlisted a b) ↔ (andThen (readSlice nodes d) (need (leb (length (slice (docOf nodes) d)) (length lent)) 12 0) ≡ Refused a b)
+  -- a list is stored exactly when the image is sound, there is such a day, and the lent list has room
+  pub given : ((n : ℕ) × (x ≡ Stored n)) ↔ (SoundNodes nodes × (d ≤ 36524) × (length (slice (docOf nodes) d) ≤ length lent))
+  -- the node image's refusal comes first, ..
+  pub nodes-first : (a b : ℕ) → readNodes nodes ≡ Refused a b → x ≡ Unlisted a b
+  -- .. then 11 for a day past the last, ..
+  pub no-such-day : SoundNodes nodes → 36524 < d → x ≡ Unlisted 11 0
+  -- .. then 12 where the lent list is too short
+  pub too-short : SoundNodes nodes → d ≤ 36524 → length lent < length (slice (docOf nodes) d) → x ≡ Unlisted 12 0
+  -- a refusal leaves the lent list as it was
+  pub unchanged : (a b : ℕ) → x ≡ Unlisted a b → after ≡ lent
+  -- otherwise the list is stored, and nothing past it
+  pub filled : (n : ℕ) → x ≡ Stored n → Filled (slice (docOf nodes) d) n lent after
+
+-- Each answer that `slice` may give, and each list that it may leave, are so.
+pub slice-refusals : (nodes : List ℕ) (d : ℕ) (lent : List ℕ) (x : Listed) (after : List ℕ) → SlicePromise nodes d lent x after → SliceRefusals nodes d lent x after
+unfolding sliceAnswer sliceLent
+slice-refusals nodes d lent x after p =
+    let e = Unique.listed-unique x (sliceAnswer nodes d lent) (p .0) in
+    let list = slice (docOf nodes) d in
+    let read = readSlice nodes d in
+    let stored = Calls.listed-stored read list lent e (p .1) in
+    record {
+      exactly = λ a b. Calls.through (Calls.listed-refused read list lent e (p .1) a b) (Calls.refused-exactly (sliceTests nodes d lent) (Calls.slice-order nodes d lent) a b);
+      as-read = Calls.listed-refused read list lent e (p .1);
+      given = (
+        λ w. let s = stored (w .0) (w .1) in let r = Calls.slice-read nodes d .0 (s .0) in (nodes-accepted nodes .0 (r .0), r .1, omega (arith, s .1, s .2)),
+        λ w. (_, Calls.listed-room read list lent e (p .1) (Calls.slice-read nodes d .1 (nodes-accepted nodes .1 (w .0), w .1)) (w .2)),
+      );
+      nodes-first = λ a b h. Calls.listed-early read list lent e (p .1) a b (Calls.slice-read-nodes nodes d a b h);
+      no-such-day = λ n h. Calls.listed-early read list lent e (p .1) 11 0 (Calls.slice-read-late nodes d (nodes-accepted nodes .1 n) h);
+      too-short = λ n h. Calls.listed-short read list lent e (p .1) (Calls.slice-read nodes d .1 (nodes-accepted nodes .1 n, h));
+      unchanged = Calls.listed-kept read list lent e (p .1);
+      filled = λ n h. let s = stored n h in record { count = s .1; room = s .2; entries = Calls.listed-filled read list lent e (p .1) n h };
+    }
+
+-- What `change_days` refuses, and how.
+pub record ChangesRefusals (nodes rules : List ℕ) (k : ℕ) (lent : List ℕ) (x : Listed) (after : List ℕ) : Type 0 where
+  -- refused with number a and place b exactly when these are of the earliest test that fails, at its lowest place
+  pub exactly : (a b : ℕ) → (x ≡ Unlisted a b) ↔ Earliest a b (changesTests nodes rules k lent)
+  -- so it is refused as the reading of images and rule is, or else for want of room
+  pub as-read : (a b : ℕ) → (x ≡ Unlisted a b) ↔ (andThen (readChanges nodes rules k) (need (leb (length (changesOf nodes rules k)) (length lent)) 12 0) ≡ Refused a b)
+  -- a list is stored exactly when both images are sound, there is such a rule, it is sequenced, and the lent list has room
+  pub given : ((n : ℕ) × (x ≡ Stored n)) ↔ (Answerable nodes rules k × Sequenced (ruleAt (rulesOf rules) k) × (length (changesOf nodes rules k) ≤ length lent))
+  -- the node image's refusal comes first, ..
+  pub nodes-first : (a b : ℕ) → readNodes nodes ≡ Refused a b → x ≡ Unlisted a b
+  -- .. then the rule image's, ..
+  pub rules-next : SoundNodes nodes → (a b : ℕ) → readRules rules ≡ Refused a b → x ≡ Unlisted a b
+  -- .. then 11 where there is no such rule ..
+  pub no-such-rule : SoundNodes nodes → SoundRules rules → length (rulesOf rules) ≤ k → x ≡ Unlisted 11 0
+  -- .. or it is not sequenced, ..
+  pub not-sequenced : Answerable nodes rules k → (Sequenced (ruleAt (rulesOf rules) k) → ⊥) → x ≡ Unlisted 11 0
+  -- .. then 12 where the lent list is too short
+  pub too-short : Answerable nodes rules k → Sequenced (ruleAt (rulesOf rules) k) → length lent < length (changesOf nodes rules k) → x ≡ Unlisted 12 0
+  -- a refusal leaves the lent list as it was
+  pub unchanged : (a b : ℕ) → x ≡ Unlisted a b → after ≡ lent
+  -- otherwise the list is stored, and nothing past it
+  pub filled : (n : ℕ) → x ≡ Stored n → Filled (changesOf nodes rules k) n lent after
+
+-- Each answer that `change_days` may give, and each list that it may leave, are so.
+pub changes-refusals : (nodes rules : List ℕ) (k : ℕ) (lent : List ℕ) (x : Listed) (after : List ℕ) → ChangesPromise nodes rules k lent x after → ChangesRefusals nodes rules k lent x after
+unfolding changesAnswer changesLent
+changes-refusals nodes rules k lent x after p =
+    let e = Unique.listed-unique x (changesAnswer nodes rules k lent) (p .0) in
+    let list = changesOf nodes rules k in
+    let read = readChanges nodes rules k in
+    let stored = Calls.listed-stored read list lent e (p .1) in
+    let early = Calls.listed-early read list lent e (p .1) in
+    let n-accepted = nodes-accepted nodes .1 in
+    let r-accepted = rules-accepted rules .1 in
+    let accepted : Answerable nodes rules k → Sequenced (ruleAt (rulesOf rules) k) → read ≡ Accepted =
+    λ w s. Calls.changes-read nodes rules k .1 (n-accepted (w .nodes-sound), (r-accepted (w .rules-sound), (w .in-table, s))) in
+    record {
+      exactly = λ a b. Calls.through (Calls.listed-refused read list lent e (p .1) a b) (Calls.refused-exactly (changesTests nodes rules k lent) (Calls.changes-order nodes rules k lent) a b);
+      as-read = Calls.listed-refused read list lent e (p .1);
+      given = (
+        λ w. let s = stored (w .0) (w .1) in
+            let r = Calls.changes-read nodes rules k .0 (s .0) in
+            (record { nodes-sound = nodes-accepted nodes .0 (r .0); rules-sound = rules-accepted rules .0 (r .1 .0); in-table = r .1 .1 .0 }, r .1 .1 .1, omega (arith, s .1, s .2)),
+        λ w. (_, Calls.listed-room read list lent e (p .1) (accepted (w .0) (w .1)) (w .2)),
+      );
+      nodes-first = λ a b h. early a b (Calls.changes-read-nodes nodes rules k a b h);
+      rules-next = λ n a b h. early a b (Calls.changes-read-rules nodes rules k (n-accepted n) a b h);
+      no-such-rule = λ n r h. early 11 0 (Calls.changes-read-none nodes rules k (n-accepted n) (r-accepted r) h);
+      not-sequenced = λ w h. early 11 0 (Calls.changes-read-windowed nodes rules k (n-accepted (w .nodes-sound)) (r-accepted (w .rules-sound)) (w .in-table) h);
+      too-short = λ w s. Calls.listed-short read list lent e (p .1) (accepted w s);
+      unchanged = Calls.listed-kept read list lent e (p .1);
+      filled = λ n h. let s = stored n h in record { count = s .1; room = s .2; entries = Calls.listed-filled read list lent e (p .1) n h };
+    }
+
+-- where both images are sound and there is such a rule, the answer is the verdict on it, ..
+judged-as : (nodes rules : List ℕ) (k : ℕ) (x : Verdict) → VerdictPromise nodes rules k x → Answerable nodes rules k
+    → x ≡ judged (docOf nodes) (referredBy (rulesOf rules) k) (ruleAt (rulesOf rules) k)
+judged-as nodes rules k x p w =
+    Calls.verdict-as-judged nodes rules k (Unique.verdict-unique x (verdict nodes rules k) p) (answerable nodes rules k .1 w)
+
+-- .. for a sequenced rule the one over every day
+verdict-on-days : (nodes rules : List ℕ) (k : ℕ) (x : Verdict) → VerdictPromise nodes rules k x → Answerable nodes rules k → Sequenced (ruleAt (rulesOf rules) k)
+    → x ≡ onDays (docOf nodes) (referredBy (rulesOf rules) k) (ruleAt (rulesOf rules) k)
+verdict-on-days nodes rules k x p w s = judged-as nodes rules k x p w ∙ sym (judged-days (docOf nodes) (referredBy (rulesOf rules) k) (ruleAt (rulesOf rules) k) s)
+
+-- 2. Demand 2: verdicts and slices are those of the definitions.
+-- A sequenced rule r, which refers to q, over the document: what the answer x says.
+pub record JudgedOnDays (doc : Doc) (q r : Rule) (x : Verdict) : Type 0 where
+  -- it holds exactly when no record offends on any day of its period
+  pub holds : ((n : ℕ) × (x ≡ Holds n)) ↔ NoFault doc q r
+  -- it fails with day d and record v exactly when d is the first day with an offender and v the lowest offender of that day
+  pub fails : (d v : ℕ) → ((n : ℕ) × (x ≡ Fails d v n)) ↔ FirstFault doc q r d v
+  -- there is no third answer
+  pub no-other : ((n : ℕ) × (x ≡ Holds n)) ⊎ ((d : ℕ) × (v : ℕ) × (n : ℕ) × (x ≡ Fails d v n))
+
+-- The answer of `verdict` on a sequenced rule of sound images is so.
+pub sequenced-verdict : (nodes rules : List ℕ) (k : ℕ) (x : Verdict) → VerdictPromise nodes rules k x → Answerable nodes rules k → Sequenced (ruleAt (rulesOf rules) k)
+    → JudgedOnDays (docOf nodes) (referredBy (rulesOf rules) k) (ruleAt (rulesOf rules) k) x
+sequenced-verdict nodes rules k x p w s =
+    let doc = docOf nodes in
+    let q = referredBy (rulesOf rules) k in
+    let r = ruleAt (rulesOf rules) k in
+    let e = verdict-on-days nodes rules k x p w s in
+    record {
+      holds = (λ h. Faults.holds-none doc q r (h .0) (sym e ∙ h .1) .0, λ h. (_, e ∙ Faults.none-holds doc q r h));
+      fails = λ d v. (λ h. fails-on-days doc q r d v (h .0) (sym e ∙ h .1), λ h. let f = Calls.first-fails doc q r d v h in (f .0, e ∙ f .1));
+      no-other = rw e (Calls.days-answer doc q r);
+    }
+
+-- A non-sequenced rule: the same, in windows.
+pub record JudgedInWindows (doc : Doc) (q r : Rule) (x : Verdict) : Type 0 where
+  -- it holds exactly when no record offends in any window of its period, ..
+  pub holds : ((n : ℕ) × (x ≡ Holds n)) ↔ NoFaultAmong doc q r (windows r)
+  -- .. and then all windows were counted
+  pub all-counted : (n : ℕ) → x ≡ Holds n → n ≡ length (windows r)
+  -- it fails with d, v and n exactly when the n-th window is the first with an offender, d its start, and v its lowest offender
+  pub fails : (d v n : ℕ) → (x ≡ Fails d v n) ↔ FirstFaultIn doc q r d v n
+  -- there is no third answer
+  pub no-other : ((n : ℕ) × (x ≡ Holds n)) ⊎ ((d : ℕ) × (v : ℕ) × (n : ℕ) × (x ≡ Fails d v n))
+
+-- The answer of `verdict` on a non-sequenced rule of sound images is so.
+pub windowed-verdict : (nodes rules : List ℕ) (k : ℕ) (x : Verdict) → VerdictPromise nodes rules k x → Answerable nodes rules k → (Sequenced (ruleAt (rulesOf rules) k) → ⊥)
+    → JudgedInWindows (docOf nodes) (referredBy (rulesOf rules) k) (ruleAt (rulesOf rules) k) x
+windowed-verdict nodes rules k x p w s =
+    let doc = docOf nodes in
+    let q = referredBy (rulesOf rules) k in
+    let r = ruleAt (rulesOf rules) k in
+    let e = judged-as nodes rules k x p w ∙ sym (judged-windows doc q r s) in
+    record {
+      holds = (λ h. Windows.holds-none-in doc q r (h .0) (sym e ∙ h .1) .0, λ h. (_, e ∙ Windows.none-holds-in doc q r h));
+      all-counted = λ n h. Windows.holds-none-in doc q r n (sym e ∙ h) .1;
+      fails = λ d v n. (λ h. fails-in-windows doc q r d v n (sym e ∙ h), λ h. e ∙ Calls.first-fails-in doc q r d v n h);
+      no-other = rw e (Calls.windows-answer doc q r);
+    }
+
+-- The slice of day d, as a list.
+pub record IsSlice (doc : Doc) (d : ℕ) (list : List ℕ) : Type 0 where
+  -- ascending, each version once
+  pub ascending : Ascending list
+  -- a record is in it exactly when it is a version with begin ≤ d < end
+  pub membership : (v : ℕ) → In list v ↔ Lives doc d v
+  -- the records that pass this test, in their order
+  pub picked : list ≡ pick (alive doc d) 0 (doc .size)
+
+-- What `slice` stores is the slice of the day.
+pub slice-stored : (nodes : List ℕ) (d : ℕ) (lent : List ℕ) (x : Listed) (after : List ℕ) → SlicePromise nodes d lent x after → (n : ℕ) → x ≡ Stored n
+    → Filled (slice (docOf nodes) d) n lent after × IsSlice (docOf nodes) d (slice (docOf nodes) d)
+slice-stored nodes d lent x after p n h =
+    let w = slice-refusals nodes d lent x after p in
+    let s = w .given .0 (n, h) .0 .document in
+    let e = Slices.slice-alive (docOf nodes) s d in
+    (w .filled n h, record { ascending = rw e (pick-ascends (alive (docOf nodes) d) 0 (docOf nodes .size)); membership = Calls.alive-listed (docOf nodes) s d; picked = e })
+
+-- 3. Demand 3: the change days of a sequenced rule r, which refers to q, serve for its verdict x; m of them are stored.
+pub record ChangeDaysServe (doc : Doc) (q r : Rule) (x : Verdict) (days : List ℕ) (m : ℕ) (lent after : List ℕ) : Type 0 where
+  -- the lent list holds these m days, and then what it held
+  pub stored : Filled days m lent after
+  -- ascending, each day once
+  pub ascending : Ascending days
+  -- a day is among them exactly when it is the period's first, or a later one of it on which a version that the rule reads begins or ends
+  pub membership : (d : ℕ) → In days d ↔ ChangeDay doc q r d
+  -- they number at most two for each version read, and one
+  pub few : m ≤ 2 * count (reads doc q r) 0 (doc .size) + 1
+  -- the verdict over every day of the period ..
+  pub every-day : x ≡ onDays doc q r
+  -- .. is the verdict over these days alone
+  pub these-days : x ≡ over (offender doc q r) days 0
+  -- the first failing day is among them, and the reported count is its place, from one
+  pub first-place : (d v n : ℕ) → x ≡ Fails d v n → At-place days d n
+  -- where the rule holds, the reported count is how many they are
+  pub whole-count : (n : ℕ) → x ≡ Holds n → n ≡ m
+
+-- Whatever `verdict` answers and `change_days` stores for one rule, the days stored serve so (that they are stored says that the images are
+-- sound and the rule is sequenced: `ChangesRefusals .given`).
+pub change-days-serve : (nodes rules : List ℕ) (k : ℕ) (lent : List ℕ) (x : Verdict) (y : Listed) (after : List ℕ)
+    → VerdictPromise nodes rules k x → ChangesPromise nodes rules k lent y after → (m : ℕ) → y ≡ Stored m
+    → ChangeDaysServe (docOf nodes) (referredBy (rulesOf rules) k) (ruleAt (rulesOf rules) k) x (changesOf nodes rules k) m lent after
+unfolding changesOf
+change-days-serve nodes rules k lent x y after p c m h =
+    let w = changes-refusals nodes rules k lent y after c in
+    let g = w .given .0 (m, h) in
+    let f = w .filled m h in
+    let e = verdict-on-days nodes rules k x p (g .0) (g .1) in
+    let s = enough-days (docOf nodes) (sound-accepted (docOf nodes) (g .0 .nodes-sound .document)) (referredBy (rulesOf rules) k) (ruleAt (rulesOf rules) k) in
+    record {
+      stored = f;
+      ascending = s .ascending;
+      membership = s .membership;
+      few = omega (arith, f .count, s .few);
+      every-day = e;
+      these-days = e ∙ s .same-verdict;
+      first-place = λ d v n t. s .first-place d v n (sym e ∙ t);
+      whole-count = λ n t. s .whole-count n (sym e ∙ t) ∙ sym (f .count);
+    }
+
+-- A lent list with two entries for each version read, and one, has room for them.
+pub change-days-room : (nodes rules : List ℕ) (k : ℕ) (lent : List ℕ) (y : Listed) (after : List ℕ) → ChangesPromise nodes rules k lent y after
+    → Answerable nodes rules k → Sequenced (ruleAt (rulesOf rules) k)
+    → 2 * count (reads (docOf nodes) (referredBy (rulesOf rules) k) (ruleAt (rulesOf rules) k)) 0 (docOf nodes .size) + 1 ≤ length lent
+    → (m : ℕ) × (y ≡ Stored m)
+unfolding changesOf
+change-days-room nodes rules k lent y after c w s h =
+    let t = enough-days (docOf nodes) (sound-accepted (docOf nodes) (w .nodes-sound .document)) (referredBy (rulesOf rules) k) (ruleAt (rulesOf rules) k) in
+    changes-refusals nodes rules k lent y after c .given .1 (w, s, omega (arith, t .few))

@@ -1,0 +1,2 @@
+-- The laws behind the verdict on one rule.
+pub mod Modes
