@@ -22,7 +22,7 @@ use Rattle.judging.specs.Fronts.{Fronts}
 use Rattle.bank.specs.Refusing.{refusedAs}
 
 -- an accepted image's columns
-pub fronts : {image : List ℕ} {c : Columns} → Unpacks image c → {n : ℕ} → c .loaded ≡ Nodes n
+abbrev pub fronts : {image : List ℕ} {c : Columns} → Unpacks image c → {n : ℕ} → c .loaded ≡ Nodes n
     → Fronts n (c .kind) (c .vkind) (c .name) (c .parent) (c .begin) (c .end) (c .value) (c .item)
 fronts {image} u {n} e =
     let w = u .whole n e in

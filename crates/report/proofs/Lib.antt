@@ -1,0 +1,2 @@
+-- The laws behind the report.
+pub mod Asking
