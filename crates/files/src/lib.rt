@@ -19,8 +19,8 @@ fn one_read(fd: i32, part: &mut [u8]) -> Got
     Got::Bytes(io::count(got, part))
 }
 
-// Reads until the buffer is full or the file ends.
-fn fill_from(fd: i32, buf: &mut [u8]) -> Got
+// Reads from an open file until the buffer is full or the file ends.
+pub fn fill_from(fd: i32, buf: &mut [u8]) -> Got
     ensures { λ r. ⌜ Within r (length (now (buf .entry))) ⌝ }
 {
     let mut at = 0;

@@ -1,0 +1,173 @@
+// Reads pairs of images from `pairs.blk` of its folder and prints for each its report, two slices, the change days of two rules and the
+// verdicts on them. A test program, so that many pairs run in one process. A pair is a header of 20 bytes and the two images.
+use files::Got;
+use meaning::Listed;
+
+// The largest good images, and one byte more, so that a longer one is refused by its length.
+const NODES_ROOM: usize = 20481;
+
+const RULES_ROOM: usize = 5121;
+
+// More than any list needs (1,000 records, or 2,001 change days) and more than a pair may ask for.
+const LIST_ROOM: usize = 2049;
+
+// Room for a line of so many numbers.
+const LINE: usize = 16384;
+
+// More pairs than any file has.
+const MANY: usize = 4294967296;
+
+// The number in two bytes.
+fn pair(low: u8, high: u8) -> usize {
+    (low as usize) + 256 * (high as usize)
+}
+
+// A number of a list, after a space.
+fn put_entry(line: &mut [u8], at: usize, x: u16) -> usize {
+    report::text::put_next(line, at, x as usize)
+}
+
+// The first n numbers of a list, or all.
+fn put_entries(line: &mut [u8], at: usize, list: &[u16], n: usize) -> usize {
+    let mut to = at;
+    let mut i = 0;
+    while i < list.len() {
+        if n <= i {
+            return to;
+        }
+        to = put_entry(line, to, list[i]);
+        i += 1;
+    }
+    to
+}
+
+// The line of a list: the word, what was asked, and what a list call answered and stored.
+fn write_list(word: &[u8], asked: usize, listed: Listed, list: &[u16]) {
+    let mut line = [0u8; LINE];
+    let named = report::text::put(&mut line, 0, word);
+    let at = report::text::put_next(&mut line, named, asked);
+    match listed {
+        Listed::Stored(n) => {
+            let counted = report::text::put_next(&mut line, at, n);
+            let end = put_entries(&mut line, counted, list, n);
+            report::text::write_line(&mut line, end);
+        }
+        Listed::Refused(number, place) => {
+            let told = report::text::put(&mut line, at, b" refused");
+            let first = report::text::put_next(&mut line, told, number);
+            let end = report::text::put_next(&mut line, first, place);
+            report::text::write_line(&mut line, end);
+        }
+    }
+}
+
+// The slice of a day, in a lent list.
+fn write_slice(nodes: &[u8], day: usize, list: &mut [u16]) {
+    let listed = bank::slice(nodes, day, list);
+    write_list(b"slice", day, listed, list);
+}
+
+// The same in a list of so many entries.
+fn write_slice_in(nodes: &[u8], day: usize, room: usize) {
+    let mut list = [0u16; LIST_ROOM];
+    if room < LIST_ROOM {
+        write_slice(nodes, day, &mut list[0..room]);
+    }
+}
+
+// The change days of a rule, in a lent list.
+fn write_changes(nodes: &[u8], rules: &[u8], rule: usize, list: &mut [u16]) {
+    let listed = bank::change_days(nodes, rules, rule, list);
+    write_list(b"changes", rule, listed, list);
+}
+
+// The same in a list of so many entries.
+fn write_changes_in(nodes: &[u8], rules: &[u8], rule: usize, room: usize) {
+    let mut list = [0u16; LIST_ROOM];
+    if room < LIST_ROOM {
+        write_changes(nodes, rules, rule, &mut list[0..room]);
+    }
+}
+
+// The verdict on a rule by its number.
+fn write_verdict(nodes: &[u8], rules: &[u8], rule: usize) {
+    let mut line = [0u8; LINE];
+    let named = report::text::put(&mut line, 0, b"verdict");
+    let at = report::text::put_next(&mut line, named, rule);
+    let end = report::put_verdict(&mut line, at, bank::verdict(nodes, rules, rule));
+    report::text::write_line(&mut line, end);
+}
+
+// All lines of one pair.
+fn write_pair(number: usize, head: [u8; 20], nodes: &[u8], rules: &[u8]) {
+    let mut line = [0u8; LINE];
+    let named = report::text::put(&mut line, 0, b"pair");
+    let end = report::text::put_next(&mut line, named, number);
+    report::text::write_line(&mut line, end);
+    report::report(nodes, rules);
+    let first = pair(head[12], head[13]);
+    let second = pair(head[14], head[15]);
+    let room = pair(head[16], head[17]);
+    write_slice_in(nodes, pair(head[8], head[9]), room);
+    write_slice_in(nodes, pair(head[10], head[11]), room);
+    write_changes_in(nodes, rules, first, room);
+    write_changes_in(nodes, rules, second, room);
+    write_verdict(nodes, rules, first);
+    write_verdict(nodes, rules, second);
+}
+
+// Whether the next bytes of the file fill the part.
+fn filled(fd: i32, part: &mut [u8]) -> bool {
+    let Got::Bytes(n) = files::fill_from(fd, part) else {
+        return false;
+    };
+    n == part.len()
+}
+
+// Whether the next n bytes of the file came into the buffer's front.
+fn filled_front(fd: i32, n: usize, buf: &mut [u8]) -> bool {
+    if buf.len() < n {
+        return false;
+    }
+    filled(fd, &mut buf[0..n])
+}
+
+// Whether there was one more pair in the file; its lines are written.
+fn one_pair(fd: i32, number: usize) -> bool {
+    let mut head = [0u8; 20];
+    if !filled(fd, &mut head) {
+        return false;
+    }
+    let n = pair(head[0], head[1]);
+    let m = pair(head[4], head[5]);
+    let mut nodes = [0u8; NODES_ROOM];
+    if !filled_front(fd, n, &mut nodes) {
+        return false;
+    }
+    let mut rules = [0u8; RULES_ROOM];
+    if !filled_front(fd, m, &mut rules) {
+        return false;
+    }
+    write_pair(
+        number,
+        head,
+        report::text::front(&nodes, n),
+        report::text::front(&rules, m),
+    );
+    true
+}
+
+fn main() {
+    let fd = os::open_read(b"pairs.blk");
+    if fd < 0 {
+        report::unreadable(b"pairs.blk");
+        return;
+    }
+    let mut number: usize = 0;
+    while number < MANY {
+        if !one_pair(fd, number) {
+            return;
+        }
+        number += 1;
+    }
+}

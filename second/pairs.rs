@@ -1,0 +1,67 @@
+//! The file of many pairs: each pair is read by itself, and its report, slices, change days and verdicts are printed.
+use crate::images::{u16_at, u32_at, Refusal};
+use crate::report::{numbers, report, Reading};
+use std::fs::File;
+use std::io::{self, BufReader, BufWriter, Read, Write};
+
+/// The next so many bytes, or none if the file ends before.
+fn taken(file: &mut dyn Read, length: usize) -> Option<Vec<u8>> {
+    let mut bytes = Vec::new();
+    file.take(length as u64).read_to_end(&mut bytes).ok()?;
+    if bytes.len() == length { Some(bytes) } else { None }
+}
+
+/// Header, node image and rule image of the next pair.
+fn next_pair(file: &mut dyn Read) -> Option<(Vec<u8>, Vec<u8>, Vec<u8>)> {
+    let header = taken(file, 20)?;
+    let nodes = taken(file, u32_at(&header, 0) as usize)?;
+    let rules = taken(file, u32_at(&header, 4) as usize)?;
+    Some((header, nodes, rules))
+}
+
+/// A list that needs more than the room is refused, after every other refusal.
+fn lent(list: Result<Vec<usize>, Refusal>, room: usize) -> Result<Vec<usize>, Refusal> {
+    match list {
+        Ok(list) if list.len() > room => Err((12, 0)),
+        other => other,
+    }
+}
+
+fn verdict_line(verdicts: &Result<Vec<String>, Refusal>, k: usize) -> String {
+    match verdicts {
+        Err((number, place)) => format!("verdict {} refused {} {}\n", k, number, place),
+        Ok(all) if k >= all.len() => format!("verdict {} refused 11 0\n", k),
+        Ok(all) => format!("verdict {} {}\n", k, all[k]),
+    }
+}
+
+fn answers(header: &[u8], nodes: &[u8], rules: &[u8], months: &[usize]) -> String {
+    let room = u16_at(header, 16) as usize;
+    let reading = Reading::new(nodes, rules, months);
+    let verdicts = reading.verdicts();
+    let mut out = report(&verdicts);
+    for at in [8, 10] {
+        let day = u16_at(header, at) as usize;
+        out += &numbers("slice", day, lent(reading.slice_asked(day), room));
+    }
+    for at in [12, 14] {
+        let k = u16_at(header, at) as usize;
+        out += &numbers("changes", k, lent(reading.changes_asked(k), room));
+    }
+    for at in [12, 14] {
+        out += &verdict_line(&verdicts, u16_at(header, at) as usize);
+    }
+    out
+}
+
+/// Prints the answers for each pair of the file, until it ends.
+pub fn over_pairs(path: &str, months: &[usize]) -> io::Result<()> {
+    let mut file = BufReader::new(File::open(path)?);
+    let mut out = BufWriter::new(io::stdout());
+    let mut number = 0;
+    while let Some((header, nodes, rules)) = next_pair(&mut file) {
+        write!(out, "pair {}\n{}", number, answers(&header, &nodes, &rules, months))?;
+        number += 1;
+    }
+    out.flush()
+}

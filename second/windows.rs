@@ -1,0 +1,110 @@
+//! The windows of a non-sequenced rule, and its meaning in one window: which record is its lowest offender there.
+use crate::nodes::{Bank, Value};
+use crate::rules::Rule;
+use crate::slices::Row;
+
+/// First day and day after the last of each window, in their order.
+pub fn windows(rule: &Rule, months: &[usize]) -> Vec<(usize, usize)> {
+    let month = |k: usize| months[k.min(1200)];
+    let mut all = Vec::new();
+    match rule.unit {
+        0 => all.push((rule.begin, rule.end)),
+        1 => {
+            let mut start = rule.begin;
+            while start < rule.end {
+                all.push((start, (start + rule.length).min(rule.end)));
+                start += rule.slide;
+            }
+        }
+        _ => {
+            let mut k = months.iter().position(|d| *d == rule.begin).unwrap();
+            while month(k) < rule.end {
+                all.push((month(k), month(k + rule.length).min(rule.end)));
+                k += rule.slide;
+            }
+        }
+    }
+    all
+}
+
+/// A selected version that meets the window: its item number, its field versions that meet it too, and their values.
+struct Met {
+    version: usize,
+    item: u32,
+    fields: Vec<usize>,
+    values: Vec<Value>,
+}
+
+fn met(bank: &Bank, rows: &[Row], from: usize, to: usize) -> Vec<Met> {
+    let meets = |v: usize| (bank.nodes[v].begin as usize) < to && from < bank.nodes[v].end as usize;
+    let mut all = Vec::new();
+    for row in rows.iter().filter(|row| meets(row.version)) {
+        let fields: Vec<usize> = row.fields.iter().copied().filter(|f| meets(*f)).collect();
+        let values = fields.iter().filter_map(|f| bank.value(*f)).collect();
+        all.push(Met { version: row.version, item: bank.item_number(row.version), fields, values });
+    }
+    all
+}
+
+/// Key: no value, or one shared with a lower version of another item number; unique: the latter only.
+fn key_offends(rule: &Rule, rows: &[Met], k: usize) -> bool {
+    let row = &rows[k];
+    let shares = |lower: &Met| lower.item != row.item && lower.values.iter().any(|x| row.values.contains(x));
+    (rule.kind == 1 && row.values.is_empty()) || rows[..k].iter().any(shares)
+}
+
+/// Reference: a value that no selected version of the referred rule has in this window.
+fn reference_offends(referred: &[Met], row: &Met) -> bool {
+    row.values.iter().any(|x| !referred.iter().any(|other| other.values.contains(x)))
+}
+
+/// Cardinality: the values (or the distinct ones) under the row's item number are too few or too many.
+fn cardinality_offends(rule: &Rule, rows: &[Met], row: &Met) -> bool {
+    let mut values: Vec<Value> = Vec::new();
+    for other in rows.iter().filter(|other| other.item == row.item) {
+        for x in &other.values {
+            if !(rule.distinct && values.contains(x)) {
+                values.push(*x);
+            }
+        }
+    }
+    let count = values.len() as i64;
+    count < rule.min || rule.max < count
+}
+
+/// p and q have numbers, p ends by q's begin, nothing of the group lies between, and the step leaves the bounds.
+fn steps_wrongly(bank: &Bank, rule: &Rule, group: &[usize], p: usize, q: usize) -> bool {
+    let nodes = &bank.nodes;
+    if nodes[p].vkind != 1 || nodes[p].end > nodes[q].begin {
+        return false;
+    }
+    if group.iter().any(|h| nodes[p].end <= nodes[*h].begin && nodes[*h].end <= nodes[q].begin) {
+        return false;
+    }
+    let step = nodes[q].value as i64 - nodes[p].value as i64;
+    step < rule.min || rule.max < step
+}
+
+/// Datatype: the field versions of a row that are no number or that follow another one wrongly.
+fn wrong_fields(bank: &Bank, rule: &Rule, rows: &[Met], row: &Met) -> Vec<usize> {
+    let valued = |f: &usize| bank.value(*f).is_some();
+    let same = rows.iter().filter(|other| other.item == row.item);
+    let group: Vec<usize> = same.flat_map(|other| other.fields.iter().copied()).filter(valued).collect();
+    let wrong = |q: &usize| bank.nodes[*q].vkind != 1 || group.iter().any(|p| steps_wrongly(bank, rule, &group, *p, *q));
+    row.fields.iter().copied().filter(valued).filter(wrong).collect()
+}
+
+/// The lowest offender in the window [from, to); the rows of the rule and of the rule it refers to are given.
+pub fn offender_in(bank: &Bank, rule: &Rule, rows: &[Row], referred: &[Row], from: usize, to: usize) -> Option<usize> {
+    let rows = met(bank, rows, from, to);
+    let referred = met(bank, referred, from, to);
+    if rule.kind == 5 {
+        return rows.iter().flat_map(|row| wrong_fields(bank, rule, &rows, row)).min();
+    }
+    let offends = |k: &usize| match rule.kind {
+        1 | 2 => key_offends(rule, &rows, *k),
+        3 => reference_offends(&referred, &rows[*k]),
+        _ => cardinality_offends(rule, &rows, &rows[*k]),
+    };
+    (0..rows.len()).find(offends).map(|k| rows[k].version)
+}

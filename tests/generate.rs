@@ -1,0 +1,183 @@
+//! Writes a file of random pairs of images, for comparing programs: sound ones, ones at an edge, damaged ones and garbage.
+//!
+//! usage: generate SEED SMALL LARGE OUT
+//!
+//! SMALL pairs have 2 to 40 records and 1 to 10 rules, LARGE ones 500 to 1,000 records and up to 100 rules; the large ones
+//! stand evenly among the small ones. The same seed and counts give the same file. Of a hundred small pairs 52 are sound,
+//! 16 at an edge, 26 damaged, 6 garbage; of a hundred large ones 76 are sound, 10 at an edge, 14 damaged.
+use std::fs::File;
+use std::io::{self, BufWriter, Write};
+
+#[path = "generate/asks.rs"]
+mod asks;
+#[path = "generate/bank.rs"]
+mod bank;
+#[path = "generate/damage.rs"]
+mod damage;
+#[path = "generate/random.rs"]
+mod random;
+#[path = "generate/records.rs"]
+mod records;
+#[path = "generate/table.rs"]
+mod table;
+
+use bank::{grown, Plan, Shape};
+use damage::{break_images, break_node, break_rule, deepen, garbage, nudge, tangle};
+use random::Random;
+use records::{Images, Pair};
+use table::{rules, Cost};
+
+/// The days of the root: mostly some hundreds or thousands of days, sometimes up to either end of the century.
+fn days(random: &mut Random) -> (u16, u16) {
+    let span = match random.share(&[4, 9, 6, 1]) {
+        0 => random.between(2, 60),
+        1 => random.between(60, 900),
+        2 => random.between(900, 5000),
+        _ => random.between(5000, 36525),
+    };
+    let first = match random.share(&[3, 12, 3]) {
+        0 => 0,
+        1 => random.below(36526 - span),
+        _ => 36525 - span,
+    };
+    (first as u16, (first + span) as u16)
+}
+
+fn plan(random: &mut Random, records: usize) -> Plan {
+    let (first, last) = days(random);
+    let tidy = random.chance(35);
+    Plan {
+        records,
+        deepest: 8,
+        shape: random.pick(&[Shape::Fields, Shape::Fields, Shape::Fields, Shape::Wild, Shape::Deep]),
+        first,
+        last,
+        touching: if tidy { 100 } else { random.pick(&[30, 60, 90, 100]) },
+        sharing: random.pick(&[0, 30, 60]),
+        fields: random.pick(&[1, 1, 2, 3]),
+        tidy,
+        ends: random.chance(10),
+    }
+}
+
+fn sound(random: &mut Random, plan: &Plan, count: usize, cost: &Cost) -> Pair {
+    let nodes = grown(random, plan);
+    let rules = rules(random, &nodes, plan, count, cost);
+    Pair { nodes, rules }
+}
+
+fn small_cost() -> Cost {
+    Cost { days: 4000, windows: 300, over: 4 }
+}
+
+fn small_sound(random: &mut Random) -> Pair {
+    let records = if random.chance(15) { random.between(2, 10) } else { random.between(10, 40) };
+    let plan = plan(random, records);
+    let count = random.between(1, 10);
+    sound(random, &plan, count, &small_cost())
+}
+
+/// A pair at an edge: full blocks, the deepest way, the last days of the century, the ends of numbers, versions that touch.
+fn small_edge(random: &mut Random) -> Pair {
+    let records = if random.chance(80) { random.pick(&[24, 25, 26, 50, 51, 75]) } else { random.between(2, 40) };
+    let mut plan = plan(random, records);
+    let count = random.pick(&[1, 9, 10, 11, 20, 21]);
+    match random.below(5) {
+        0 => {
+            plan.last = 36525;
+            plan.first = random.pick(&[36524, 36523, 36494, 36400]);
+        }
+        1 => plan.ends = true,
+        2 => plan.shape = Shape::Deep,
+        3 => plan.touching = 100,
+        _ => plan.sharing = 90,
+    }
+    let mut pair = sound(random, &plan, count, &small_cost());
+    match random.below(4) {
+        0 => {
+            let deepest = random.pick(&[8, 8, 9]);
+            deepen(random, &mut pair, deepest);
+        }
+        1 => nudge(random, &mut pair),
+        _ => {}
+    }
+    pair
+}
+
+/// Few rules and short periods for most, since a checker that looks at each day would take long over many.
+fn large(random: &mut Random, edge: bool) -> Pair {
+    let records = if edge { random.pick(&[1000, 1000, 999, 975, 976]) } else { random.between(500, 1000) };
+    let plan = plan(random, records);
+    let count = match random.share(&[80, 15, 5]) {
+        _ if edge && random.chance(40) => random.pick(&[100, 100, 99, 90, 91]),
+        0 => random.between(1, 12),
+        1 => random.between(10, 40),
+        _ => random.between(40, 100),
+    };
+    let over = if count < 15 { 2 } else { 0 };
+    let cost = Cost { days: 30000 / (count + 9), windows: 3000 / (count + 9), over };
+    let mut pair = sound(random, &plan, count, &cost);
+    if edge && random.chance(30) {
+        nudge(random, &mut pair);
+    }
+    pair
+}
+
+/// One to three breaks: of nodes, of rules, of the images as bytes; or several of nesting.
+fn damaged(random: &mut Random, mut pair: Pair) -> Images {
+    if random.chance(20) {
+        tangle(random, &mut pair);
+        return pair.images();
+    }
+    let breaks = random.pick(&[1, 1, 1, 2, 2, 3]);
+    let mut later = 0;
+    for _ in 0..breaks {
+        match random.share(&[5, 6, 4]) {
+            0 => break_node(random, &mut pair),
+            1 => break_rule(random, &mut pair),
+            _ => later += 1,
+        }
+    }
+    let mut images = pair.images();
+    for _ in 0..later {
+        break_images(random, &mut images);
+    }
+    images
+}
+
+/// The next pair as it stands in the file.
+fn next_pair(random: &mut Random, is_large: bool) -> Vec<u8> {
+    let shares = if is_large { [76, 10, 14, 0] } else { [52, 16, 26, 6] };
+    let class = random.share(&shares);
+    let pair = match class {
+        _ if is_large => large(random, class == 1),
+        1 => small_edge(random),
+        _ => small_sound(random),
+    };
+    let asked = asks::asked(random, &pair, if class == 1 { 40 } else { 12 });
+    let mut images = if class == 2 { damaged(random, pair) } else { pair.images() };
+    if class == 3 {
+        garbage(random, &mut images);
+    }
+    let mut out = asks::header(&images, &asked);
+    out.extend(images.nodes);
+    out.extend(images.rules);
+    out
+}
+
+fn main() -> io::Result<()> {
+    let words: Vec<String> = std::env::args().collect();
+    if words.len() != 5 {
+        eprintln!("usage: generate SEED SMALL LARGE OUT");
+        std::process::exit(2);
+    }
+    let number = |k: usize| words[k].parse::<u64>().expect("a number");
+    let (mut random, small, large) = (Random::new(number(1)), number(2), number(3));
+    let mut out = BufWriter::new(File::create(&words[4])?);
+    let all = small + large;
+    for k in 0..all {
+        let is_large = (k + 1) * large / all > k * large / all;
+        out.write_all(&next_pair(&mut random, is_large))?;
+    }
+    out.flush()
+}
