@@ -43,8 +43,8 @@ fn read_by(nodes: &[Node], rule: &Rule) -> Vec<usize> {
     };
     let selected: Vec<bool> = (0..nodes.len()).map(|v| nodes[v].kind == 2 && fits(v)).collect();
     let is_field = |f: usize| {
-        let item = &nodes[nodes[f].parent as usize];
-        item.name == rule.field && item.parent != 65535 && selected[item.parent as usize]
+        let holder = |item: &Node| item.name == rule.field && selected.get(item.parent as usize) == Some(&true);
+        nodes.get(nodes[f].parent as usize).map_or(false, holder)
     };
     (0..nodes.len()).filter(|v| nodes[*v].kind == 2 && (selected[*v] || is_field(*v))).collect()
 }

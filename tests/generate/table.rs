@@ -25,17 +25,19 @@ pub fn month_starts() -> Vec<usize> {
     starts
 }
 
-/// The names of the items from the root to the item of version v.
+/// The names of the items from the root to the item of version v; none where the way does not lead to the root.
 pub fn names_to(nodes: &[Node], v: usize) -> Vec<u16> {
+    let parent = |i: usize| nodes.get(i).map_or(65535, |n| n.parent as usize);
     let mut names = vec![];
-    let mut item = nodes[v].parent as usize;
-    loop {
+    let mut item = parent(v);
+    while item < nodes.len() && names.len() < nodes.len() {
         names.insert(0, nodes[item].name);
         if item == 0 {
             return names;
         }
-        item = nodes[nodes[item].parent as usize].parent as usize;
+        item = parent(parent(item));
     }
+    vec![]
 }
 
 /// So many sound rules; a reference finds a key or unique rule among them.
