@@ -19,6 +19,7 @@ use Rattle.nodes.specs.Unpacking.{Unpacks}
 use Rattle.nodes.proofs.Held.{refused-image, held-image, front-room}
 use Rattle.rules.specs.Table.{Table}
 use Rattle.judging.specs.Fronts.{Fronts}
+use Rattle.bank.specs.Promises.{VerdictPromise}
 use Rattle.bank.specs.Refusing.{refusedAs}
 
 -- an accepted image's columns
@@ -41,9 +42,8 @@ fronts {image} u {n} e =
     }
 
 module _ (image rules : List ℕ) (k : ℕ) {c : Columns} (u : Unpacks image c) {x : Loaded} (ex : x ≡ c .loaded) where
-  -- the promise
-  abbrev pub Right : Verdict → Type 0
-  Right y = tellVerdict y ≡ tellVerdict (verdict image rules k)
+  abbrev Right : Verdict → Type 0
+  Right = VerdictPromise image rules k
 
   pub nodes-refused : {a b : ℕ} → x ≡ Unloaded a b → {y : Verdict} → y ≡ refusedAs x → Right y
   unfolding verdict readVerdict

@@ -38,18 +38,11 @@ use Rattle.meaning.proofs.Slices as Slices
 use Rattle.meaning.proofs.Faults as Faults
 use Rattle.meaning.proofs.Windows as Windows
 use Rattle.judging.proofs.Modes.{judged-days, judged-windows}
+use Rattle.bank.specs.Promises.{VerdictPromise, SlicePromise, ChangesPromise}
 use Rattle.bank.proofs.Calls as Calls
 
--- What the calls promise, word for word as the `ensures` of src/lib.rt: the images are lists of bytes, k is a rule number, d a day, `lent` the
--- list as it was lent and `after` the list afterwards. Every theorem is about each answer x, and each list, that a promise allows.
-abbrev pub VerdictPromise : List ℕ → List ℕ → ℕ → Verdict → Type 0
-VerdictPromise nodes rules k x = tellVerdict x ≡ tellVerdict (verdict nodes rules k)
-
-abbrev pub SlicePromise : List ℕ → ℕ → List ℕ → Listed → List ℕ → Type 0
-SlicePromise nodes d lent x after = (tellListed x ≡ tellListed (sliceAnswer nodes d lent)) × (after ≡ sliceLent nodes d lent)
-
-abbrev pub ChangesPromise : List ℕ → List ℕ → ℕ → List ℕ → Listed → List ℕ → Type 0
-ChangesPromise nodes rules k lent x after = (tellListed x ≡ tellListed (changesAnswer nodes rules k lent)) × (after ≡ changesLent nodes rules k lent)
+-- Every theorem is about each answer x, and each list `after`, that the promise of a call allows (specs/Promises.antt): nodes and rules are
+-- lists of bytes, k is a rule number, d a day, and `lent` the list as it was lent.
 
 -- 0. What a promise allows is one result. Two answers that `verdict` may give are equal.
 pub verdict-unique : (nodes rules : List ℕ) (k : ℕ) (x y : Verdict) → VerdictPromise nodes rules k x → VerdictPromise nodes rules k y → x ≡ y

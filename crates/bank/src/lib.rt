@@ -11,23 +11,22 @@ ghost use lib.ListN.{length};
 ghost use Rattle.meaning.specs.declared.Reading.the-variants.{Accepted};
 ghost use Rattle.meaning.specs.Nodes.{docOf};
 ghost use Rattle.meaning.specs.Rules.{ruleAt, rulesOf, readRules};
-ghost use Rattle.meaning.specs.Answer.{referredBy, judged, sliceAnswer, sliceLent, changesAnswer, changesLent, verdict, tellListed, tellVerdict};
+ghost use Rattle.meaning.specs.Answer.{referredBy, judged};
 ghost use Rattle.nodes.specs.declared.Loaded.the-variants.{Nodes};
 ghost use Rattle.nodes.specs.Unpacking.{Unpacks};
+ghost use Rattle.bank.specs.Promises.{VerdictPromise, SlicePromise, ChangesPromise};
 ghost use Rattle.bank.specs.Refusing.{refusedAs};
 
 // The slice of a day, into a lent list.
 pub fn slice(nodes: &[u8], day: usize, out: &mut [u16]) -> Listed
-    ensures answer { λ r. ⌜ tellListed r ≡ tellListed (sliceAnswer (now (nodes .entry)) day (now (out .entry))) ⌝ }
-    ensures lent { λ r. ⌜ now (out .exit) ≡ sliceLent (now (nodes .entry)) day (now (out .entry)) ⌝ }
+    ensures { λ r. ⌜ SlicePromise (now (nodes .entry)) day (now (out .entry)) r (now (out .exit)) ⌝ }
 {
     lists::slice(nodes, day, out)
 }
 
 // The change days of a sequenced rule, into a lent list.
 pub fn change_days(nodes: &[u8], rules: &[u8], rule: usize, out: &mut [u16]) -> Listed
-    ensures answer { λ r. ⌜ tellListed r ≡ tellListed (changesAnswer (now (nodes .entry)) (now (rules .entry)) rule (now (out .entry))) ⌝ }
-    ensures lent { λ r. ⌜ now (out .exit) ≡ changesLent (now (nodes .entry)) (now (rules .entry)) rule (now (out .entry)) ⌝ }
+    ensures { λ r. ⌜ ChangesPromise (now (nodes .entry)) (now (rules .entry)) rule (now (out .entry)) r (now (out .exit)) ⌝ }
 {
     lists::change_days(nodes, rules, rule, out)
 }
@@ -75,7 +74,7 @@ fn judge(columns: Columns, n: usize, rules: &[u8], rule: usize) -> Verdict
 // The verdict on a rule: holds, with how many slices or windows were looked at; fails, with the first failing day or window start, the lowest
 // offending record and how many; or refused. Cost: reading both images, then the verdict on the rule.
 pub fn verdict(nodes: &[u8], rules: &[u8], rule: usize) -> Verdict
-    ensures { λ r. ⌜ tellVerdict r ≡ tellVerdict (verdict (now (nodes .entry)) (now (rules .entry)) rule) ⌝ }
+    ensures { λ r. ⌜ VerdictPromise (now (nodes .entry)) (now (rules .entry)) rule r ⌝ }
 {
     let columns = nodes::read_columns(nodes);
     let loaded = columns.loaded;
