@@ -1,5 +1,5 @@
 -- How many records an image has whose blocks were read, and where in it a record lies.
-use mathlib.Core.Path.{_≡_, refl, ap}
+use mathlib.Core.Path.{_≡_, ap}
 use mathlib.Core.List.{List}
 use Prim.Native.Nat.{ℕ, _+_, _-_, _*_, _/_, _%_, _≤_, _<_}
 use native.Mathlib.Nat.{mod-lt, mul-le-mul-left, div-lt-iff-lt-mul}
@@ -57,10 +57,11 @@ module _ {form : Form} {image : List ℕ} {i : ℕ} (h : Inside form image i) wh
       let b : i / form .each < blocks image = div-lt-iff-lt-mul (h .fair .some) .1 (omega (arith, h .inside)) in
       omega arith
 
-  -- from its own place to the next one's, in its block
-  pub part-of : {from to : ℕ} → from ≡ recordAt form (i % form .each) → to ≡ recordAt form (i % form .each + 1) → to ≤ 508
-      → Part form image i (take (to - from) (drop from (cut image (i / form .each))))
+-- record k of the block that starts at a place, from its own place to the next one's, is record i of the image
+module _ {form : Form} {image : List ℕ} {at k from to : ℕ} (here : at + 512 ≤ length image) (ef : from ≡ recordAt form k) (et : to ≡ recordAt form (k + 1)) (fits : to ≤ 508) where
+  pub part-of : (i : ℕ) → at ≡ 512 * (i / form .each) → k ≡ i % form .each → Part form image i (take (to - from) (drop from (take (at + 512 - at) (drop at image))))
   unfolding recordOf
-  part-of {from} {to} ef et fits =
-      let size : to - from ≡ form .size = omega arith in
-      rw (cut-block image (i / form .each), size, ef) (record { bytes = refl; size = simp (length-take, length-drop) (omega (arith, block-here)) })
+  part-of i ea ek =
+      let width : at + 512 - at ≡ 512 = omega arith in
+      let size : to - from ≡ form .size = omega (arith, ef, et) in
+      rw (width, size) (record { bytes = rw (ef, ek, ea); size = simp (length-take, length-drop) (omega (arith, here, ef, et, fits)) })

@@ -45,6 +45,12 @@ pub record Counted (form : Form) (image : List ℕ) (n : ℕ) : Type 0 where
   pub inside : n ≤ form .each * blocks image
   pub few : n ≤ form .each * form .most
 
+-- a block starts at a place of the image, and has room for its record k
+pub record Within (form : Form) (image : List ℕ) (at k : ℕ) : Type 0 where
+  pub fair : Fair form
+  pub here : at + 512 ≤ length image
+  pub few : k < form .each
+
 -- a record that lies in a block
 pub record Inside (form : Form) (image : List ℕ) (i : ℕ) : Type 0 where
   pub fair : Fair form

@@ -1,11 +1,11 @@
 // Images of blocks of 512 bytes: one reader for both kinds, with the check, the header and the zeros of each block; then how many records there are, and the bytes of one.
 ghost use mathlib.Core.Path.{_≡_};
 ghost use mathlib.Core.Bool.{cond};
-ghost use Prim.Native.Nat.{_+_, _*_, _%_, _^_, _≤_, _<_};
+ghost use Prim.Native.Nat.{ℕ, _+_, _*_, _/_, _%_, _^_, _≤_, _<_};
 ghost use lib.ListN.{length};
 ghost use Rattle.meaning.specs.Order.{inOrder};
 ghost use Rattle.meaning.specs.Block.{nodeForm, ruleForm, checkStep, check, allZero, checkFits, headerFits, restZero, readBlock, sizeFits, imageTests};
-ghost use Rattle.block.specs.Fair.{Fair, OneBlock, Roomy, Start, Read, Counted, Inside, Part};
+ghost use Rattle.block.specs.Fair.{Fair, OneBlock, Roomy, Start, Read, Counted, Within, Inside, Part};
 use meaning::Form;
 use meaning::Reading;
 
@@ -179,6 +179,18 @@ pub fn count_records(image: &[u8], form: Form) -> usize
     records_before(form, last) + count
 }
 
+// The bytes of record k of the block that starts at a place of the image.
+pub fn record_from(image: &[u8], form: Form, at: usize, k: usize) -> &[u8]
+    requires { ⌜ Within form (now image) at k ⌝ }
+    ensures { λ r. ⌜ ((i : ℕ) → at ≡ 512 * (i / form .each) → k ≡ i % form .each → Part form (now (image .entry)) i (now r)) ⌝ }
+{
+    let end = at + 512;
+    let from = record_at(form, k);
+    let to = record_at(form, k + 1);
+    let part = &image[at..end];
+    &part[from..to]
+}
+
 // The bytes of record i, a part of its block.
 pub fn record_part(image: &[u8], form: Form, i: usize) -> &[u8]
     requires { ⌜ Inside form (now image) i ⌝ }
@@ -186,12 +198,7 @@ pub fn record_part(image: &[u8], form: Form, i: usize) -> &[u8]
 {
     let each = form.each;
     let at = 512 * (i / each);
-    let end = at + 512;
-    let k = i % each;
-    let from = record_at(form, k);
-    let to = record_at(form, k + 1);
-    let part = &image[at..end];
-    &part[from..to]
+    record_from(image, form, at, i % each)
 }
 
 // The blocks of a node image, whatever its bytes.

@@ -1,5 +1,5 @@
 -- The ways out of reading and of unpacking a node image. Over plain variables: what each call gave, with what it ensures.
-use mathlib.Core.Path.{_≡_, refl, sym, ap, _∙_}
+use mathlib.Core.Path.{_≡_, sym, ap, _∙_}
 use mathlib.Core.Bool.{Bool, true, false, not}
 use mathlib.Core.List.{List, _++_, map}
 use Prim.Native.Nat.{ℕ, _*_, _≤_}
@@ -9,13 +9,12 @@ use lib.ListN.{length, drop}
 use Rattle.meaning.specs.declared.Node.{Node}
 use Rattle.meaning.specs.declared.Reading.{Reading}
 use Rattle.meaning.specs.declared.Reading.the-variants.{Accepted, Refused}
-use Rattle.meaning.specs.Order.{need, andThen, inOrder}
+use Rattle.meaning.specs.Order.{andThen, inOrder}
 use Rattle.meaning.specs.Block.{nodeForm, imageTests, records, recordOf, blocks}
 use Rattle.meaning.specs.Nodes.{nodeIn, nodesOf, docOf, accept, readNodes}
 use Rattle.meaning.proofs.Orders.{then-accepted}
 use Rattle.meaning.proofs.Says.{says}
 use Rattle.meaning.proofs.Walks.{length-listed}
-use Rattle.nodes.specs.declared.Loaded.{Loaded}
 use Rattle.nodes.specs.declared.Loaded.the-variants.{Nodes, Refused as Unloaded}
 use Rattle.nodes.specs.Filled.{filled, Roomy}
 use Rattle.nodes.specs.Loading.{roomy, loaded, loading}
@@ -36,7 +35,8 @@ pub blocks-good : (image : List ℕ) → readNodes image ≡ Accepted → inOrde
 unfolding readNodes
 blocks-good image e = then-accepted (inOrder (imageTests nodeForm image)) (accept (docOf image)) e .0
 
-counted : (image : List ℕ) (n : ℕ) → n ≡ records nodeForm image → length (nodesOf image) ≡ n
+-- as many as there are records
+pub counted : (image : List ℕ) (n : ℕ) → n ≡ records nodeForm image → length (nodesOf image) ≡ n
 unfolding nodesOf
 counted image n e = length-listed (λ i. nodeIn (recordOf nodeForm image i)) 0 (records nodeForm image) ∙ sym e
 

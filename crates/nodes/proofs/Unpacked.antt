@@ -1,7 +1,7 @@
 -- Columns filled from an image hold its document: field by field over any column, then all nine together.
 use mathlib.Core.Path.{_≡_, refl, sym, ap, _∙_}
-use mathlib.Core.List.{List, [], _∷_, _++_, map}
-use Prim.Native.Nat.{ℕ, zero, suc, _≤_}
+use mathlib.Core.List.{List, _∷_, map}
+use Prim.Native.Nat.{ℕ, zero, suc}
 use lib.IntN.{ℤ}
 use lib.ListN.{length, take}
 use lib.Seq.{take-at}
@@ -9,8 +9,8 @@ use Rattle.meaning.specs.declared.Node.{Node}
 use Rattle.meaning.specs.Walk.{listed}
 use Rattle.meaning.specs.Bytes.{byte, two, four, signed}
 use Rattle.meaning.specs.Block.{nodeForm, records, recordOf}
-use Rattle.meaning.specs.Document.{Doc, columns, ofNodes}
-use Rattle.meaning.specs.Nodes.{nodeIn, nodesOf, docOf, accept}
+use Rattle.meaning.specs.Document.{columns, ofNodes}
+use Rattle.meaning.specs.Nodes.{nodeIn, nodesOf, docOf}
 use Rattle.meaning.proofs.Walks.{length-listed}
 use Rattle.nodes.specs.Filled.{filled}
 

@@ -1,15 +1,13 @@
 -- What comes of unpacking a node image into lent columns: the answer, and what each column then holds.
-use mathlib.Core.Path.{_≡_}
 use mathlib.Core.Bool.{Bool, _&&_}
 use mathlib.Core.List.{List, _++_, map}
-use Prim.Native.Nat.{ℕ, _*_, _≤_}
+use Prim.Native.Nat.{ℕ}
 use lib.Dec.{leb}
 use lib.ListN.{length, drop}
 use Rattle.meaning.specs.declared.Node.{Node}
 use Rattle.meaning.specs.declared.Reading.{Reading}
 use Rattle.meaning.specs.declared.Reading.the-variants.{Accepted, Refused}
-use Rattle.meaning.specs.Order.{need, andThen, inOrder}
-use Rattle.meaning.specs.Block.{nodeForm, imageTests, blocks, records}
+use Rattle.meaning.specs.Order.{need, andThen}
 use Rattle.meaning.specs.Nodes.{nodesOf, readNodes}
 use Rattle.nodes.specs.declared.Loaded.{Loaded}
 use Rattle.nodes.specs.declared.Loaded.the-variants.{Nodes, Refused as Unloaded}
@@ -32,10 +30,3 @@ loading image a b c d e f g h =
 abbrev pub unpacked : {A : Type 0} → Loaded → (Node → A) → List ℕ → List A → List A
 unpacked (Nodes n) field image old = map field (nodesOf image) ++ drop n old
 unpacked (Unloaded number place) field image old = old
-
--- an image whose blocks are good, with n records
-pub record Blocked (image : List ℕ) (n : ℕ) : Type 0 where
-  pub blocks-read : inOrder (imageTests nodeForm image) ≡ Accepted
-  pub count : n ≡ records nodeForm image
-  pub inside : n ≤ 25 * blocks image
-  pub few : n ≤ 1000

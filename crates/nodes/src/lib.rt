@@ -3,13 +3,14 @@ use meaning::Reading;
 ghost use mathlib.Core.Path.{_≡_};
 ghost use lib.ListN.{length, take};
 ghost use Rattle.meaning.specs.Document.{columns};
+ghost use Rattle.document.specs.Columns.{limit};
 ghost use Rattle.meaning.specs.declared.Node.{Node};
-ghost use Rattle.meaning.specs.Nodes.{docOf, accept, readNodes};
+ghost use Rattle.meaning.specs.Nodes.{accept, readNodes};
 ghost use Rattle.meaning.specs.Bytes.{byte, two, four, signed};
 ghost use Rattle.meaning.specs.Block.{nodeForm, recordOf};
 ghost use Rattle.nodes.specs.Filled.{filled, Roomy, Front};
-ghost use Rattle.nodes.specs.Loading.{roomy, Blocked, loading, unpacked};
-ghost use Rattle.nodes.specs.Unpacking.{Unpacks};
+ghost use Rattle.nodes.specs.Loading.{roomy, loaded, loading, unpacked};
+ghost use Rattle.nodes.specs.Unpacking.{Unpacks, together};
 use document::LIMIT;
 
 pub mod fill; // fill.rt: one column, from the records of an image
@@ -99,10 +100,61 @@ fn accept_front(
     )
 }
 
-// The document of an image of good blocks, tested in columns of its own, so that a refusal touches no lent one.
-fn accept_image(image: &[u8], n: usize) -> Reading
-    requires { ⌜ Blocked (now image) n ⌝ }
-    ensures { λ r. ⌜ r ≡ accept (docOf (now (image .entry))) ⌝ }
+// What came of reading an image, and columns with room for the largest document: where it is accepted, their first entries hold its own.
+pub struct Columns {
+    pub loaded: Loaded,
+    pub kind: [u8; LIMIT],
+    pub vkind: [u8; LIMIT],
+    pub name: [u16; LIMIT],
+    pub parent: [u16; LIMIT],
+    pub begin: [u16; LIMIT],
+    pub end: [u16; LIMIT],
+    pub value: [i32; LIMIT],
+    pub item: [u32; LIMIT],
+}
+
+// The answer on n records that were read.
+fn told(read: Reading, n: usize) -> Loaded
+    ensures { λ r. ⌜ r ≡ loaded read n ⌝ }
+{
+    match read {
+        Reading::Accepted => Loaded::Nodes(n),
+        Reading::Refused(number, place) => Loaded::Refused(number, place),
+    }
+}
+
+// A whole image read into columns with room for the largest document; where it is refused, nothing is said of what they hold. One pass over
+// the blocks, one look at each record for each column, then the document's tests.
+fn read_into(
+    image: &[u8],
+    kind: &mut [u8],
+    vkind: &mut [u8],
+    name: &mut [u16],
+    parent: &mut [u16],
+    begin: &mut [u16],
+    end: &mut [u16],
+    value: &mut [i32],
+    item: &mut [u32],
+    spare: &mut [u16],
+) -> Loaded
+    requires { ⌜ Front limit (length (now kind)) (length (now vkind)) (length (now name)) (length (now parent)) (length (now begin)) (length (now end)) (length (now value)) (length (now item)) (length (now spare)) ⌝ }
+    ensures { λ r. ⌜ Unpacks (now (image .entry)) (together r (now (kind .exit)) (now (vkind .exit)) (now (name .exit)) (now (parent .exit)) (now (begin .exit)) (now (end .exit)) (now (value .exit)) (now (item .exit))) ⌝ }
+{
+    let blocks = block::node_blocks(image);
+    let Reading::Accepted = blocks else {
+        return told(blocks, 0);
+    };
+    let n = block::count_records(image, block::NODES);
+    unpack(image, n, kind, vkind, name, parent, begin, end, value, item);
+    fill::fill_pairs(image, n, 18, spare);
+    let read = accept_front(n, kind, vkind, name, parent, begin, end, value, item, spare);
+    told(read, n)
+}
+
+// An image read into columns of its own, for every byte string: unpacked once, and its document tested where it then stands. Cost: one
+// pass over the blocks, one look at each record for each column, then the document's tests.
+pub fn read_columns(image: &[u8]) -> Columns
+    ensures { λ r. ⌜ Unpacks (now (image .entry)) r ⌝ }
 {
     let mut kind = [0u8; LIMIT];
     let mut vkind = [0u8; LIMIT];
@@ -113,9 +165,8 @@ fn accept_image(image: &[u8], n: usize) -> Reading
     let mut value = [0i32; LIMIT];
     let mut item = [0u32; LIMIT];
     let mut spare = [0u16; LIMIT];
-    unpack(
+    let loaded = read_into(
         image,
-        n,
         &mut kind,
         &mut vkind,
         &mut name,
@@ -124,35 +175,36 @@ fn accept_image(image: &[u8], n: usize) -> Reading
         &mut end,
         &mut value,
         &mut item,
+        &mut spare,
     );
-    fill::fill_pairs(image, n, 18, &mut spare);
-    accept_front(
-        n,
-        &kind,
-        &vkind,
-        &name,
-        &parent,
-        &begin,
-        &end,
-        &value,
-        &item,
-        &spare,
-    )
+    Columns {
+        loaded,
+        kind,
+        vkind,
+        name,
+        parent,
+        begin,
+        end,
+        value,
+        item,
+    }
 }
 
-// What comes of a whole image, 1 to 10, for every byte string. One pass over the blocks, then the document's tests.
+// What comes of a whole image, 1 to 10, for every byte string. Cost: as `read_columns`, of which it is the answer.
 pub fn read_nodes(image: &[u8]) -> Reading
     ensures { λ r. ⌜ r ≡ readNodes (now (image .entry)) ⌝ }
 {
-    let blocks = block::node_blocks(image);
-    let Reading::Accepted = blocks else {
-        return blocks;
-    };
-    accept_image(image, block::count_records(image, block::NODES))
+    let columns = read_columns(image);
+    let loaded = columns.loaded;
+    match loaded {
+        Loaded::Nodes(_) => Reading::Accepted,
+        Loaded::Refused(number, place) => Reading::Refused(number, place),
+    }
 }
 
 // An image unpacked into eight lent columns, for every byte string: where it is accepted and there is room, each column holds
 // its field of every record and past them what it held; where it is refused, or a column is too short (12), all stay as they were.
+// So it is read in columns of the reader's own first: unpacked twice.
 pub fn load(
     image: &[u8],
     kind: &mut [u8],
@@ -197,53 +249,4 @@ pub fn load(
     }
     unpack(image, n, kind, vkind, name, parent, begin, end, value, item);
     Loaded::Nodes(n)
-}
-
-// What came of reading an image, and columns with room for the largest document: where it is accepted, their first entries hold its own.
-pub struct Columns {
-    pub loaded: Loaded,
-    pub kind: [u8; LIMIT],
-    pub vkind: [u8; LIMIT],
-    pub name: [u16; LIMIT],
-    pub parent: [u16; LIMIT],
-    pub begin: [u16; LIMIT],
-    pub end: [u16; LIMIT],
-    pub value: [i32; LIMIT],
-    pub item: [u32; LIMIT],
-}
-
-// An image unpacked into columns of its own, for every byte string. Cost: as `load`.
-pub fn read_columns(image: &[u8]) -> Columns
-    ensures { λ r. ⌜ Unpacks (now (image .entry)) r ⌝ }
-{
-    let mut kind = [0u8; LIMIT];
-    let mut vkind = [0u8; LIMIT];
-    let mut name = [0u16; LIMIT];
-    let mut parent = [0u16; LIMIT];
-    let mut begin = [0u16; LIMIT];
-    let mut end = [0u16; LIMIT];
-    let mut value = [0i32; LIMIT];
-    let mut item = [0u32; LIMIT];
-    let loaded = load(
-        image,
-        &mut kind,
-        &mut vkind,
-        &mut name,
-        &mut parent,
-        &mut begin,
-        &mut end,
-        &mut value,
-        &mut item,
-    );
-    Columns {
-        loaded,
-        kind,
-        vkind,
-        name,
-        parent,
-        begin,
-        end,
-        value,
-        item,
-    }
 }

@@ -1,6 +1,8 @@
 -- The laws behind the walk over windows.
 pub mod Starting
 pub mod Skipping
+pub mod Eights
+pub mod Leaping
 pub mod Walking
 pub mod Listing
 pub mod Fitting

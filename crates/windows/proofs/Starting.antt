@@ -2,7 +2,7 @@
 use mathlib.Core.Path.{_≡_, sym}
 use mathlib.Core.Logic.{⊎-elim}
 use mathlib.Core.Bool.{Bool, true, false}
-use Prim.Native.Nat.{ℕ, _≤_, _<_}
+use Prim.Native.Nat.{ℕ, zero, suc, _+_, _*_, _≤_, _<_}
 use native.Mathlib.Omega.{arith}
 use borrow.Author.Tests.{le-leb, lt-leb}
 use Rattle.calendar.specs.Gregorian.{monthStart}
@@ -32,6 +32,12 @@ clipped a b x y e p = rw (sym e) p
 pub least-most : (a b : ℕ) → least a b ≤ b
 least-most a b = ⊎-elim (λ h. omega (arith, least-left a b h)) (λ h. omega (arith, least-right a b h)) (le-or-lt a b)
 
+pub least-first : (a b : ℕ) → least a b ≤ a
+least-first a b = ⊎-elim (λ h. omega (arith, least-left a b h)) (λ h. omega (arith, least-right a b h)) (le-or-lt a b)
+
+pub least-low : (a b x : ℕ) → x ≤ a → x ≤ b → x ≤ least a b
+least-low a b x h l = ⊎-elim (λ m. omega (arith, least-left a b m)) (λ m. omega (arith, least-right a b m)) (le-or-lt a b)
+
 pub least-rises : (a b c : ℕ) → a ≤ b → least a c ≤ least b c
 least-rises a b c h =
     ⊎-elim
@@ -55,3 +61,16 @@ days-rise false j k h = h
 pub days-ascend : (monthly : Bool) (j k : ℕ) → j < k → placeDay monthly j < 36525 → placeDay monthly j < placeDay monthly k
 days-ascend true j k h l = start-ascends j k h (month-low j l)
 days-ascend false j k h l = h
+
+-- places a slide apart that lie in the period: each is a day later at the least
+pub days-climb : (monthly : Bool) (k slide close n : ℕ) → 1 ≤ slide → close ≤ 36525 → ((j : ℕ) → j < n → placeDay monthly (k + j * slide) < close)
+    → (j : ℕ) → j ≤ n → placeDay monthly k + j ≤ placeDay monthly (k + j * slide)
+days-climb monthly k slide close n one most inside zero h =
+    let e : k + 0 * slide ≡ k = omega arith in
+    rw e (omega arith)
+days-climb monthly k slide close n one most inside (suc j) h =
+    omega (
+      arith,
+      days-climb monthly k slide close n one most inside j (omega arith),
+      days-ascend monthly (k + j * slide) (k + suc j * slide) (omega arith) (omega (arith, inside j (omega arith))),
+    )

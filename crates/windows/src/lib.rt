@@ -2,113 +2,29 @@
 use meaning::Found;
 use meaning::Rule;
 use meaning::Verdict;
-use places::Stretch;
 ghost use mathlib.Core.Path.{_≡_};
 ghost use mathlib.Core.Bool.{true, false, _||_};
-ghost use Prim.Native.Nat.{ℕ, _+_, _*_, _≤_, _<_};
-ghost use lib.ListN.{length, getD};
 ghost use Rattle.calendar.specs.Entries.{MonthTable};
-ghost use Rattle.meaning.specs.declared.Found.the-variants.{Nothing};
 ghost use Rattle.meaning.specs.declared.Rule.{Rule};
 ghost use Rattle.meaning.specs.Document.{Doc};
 ghost use Rattle.meaning.specs.Rules.{isKey, isUnique, isReference, isSequenced, ruleFields};
 ghost use Rattle.meaning.specs.Day.{isChange};
 ghost use Rattle.meaning.specs.Window.{inWindows};
-ghost use Rattle.document.specs.Columns.{limit};
 ghost use Rattle.document.specs.Lent.{Tree, Values, Periods, Numbers, Checked};
 ghost use Rattle.marks.specs.Marks.{Marks};
 ghost use Rattle.values.specs.Represents.{Represents};
 ghost use Rattle.window.specs.Laid.{Laid};
 ghost use Rattle.windows.specs.Placing.{Placed};
-ghost use Rattle.windows.specs.Walkable.{offenderOver, Still, Lookable, Going};
+ghost use Rattle.windows.specs.Walkable.{Lookable, Going};
 
 pub mod places; // places.rt: where the windows of a rule start and end
+pub mod leaps; // leaps.rt: how many windows see the same
 pub mod judging; // judging.rt: the verdict on a rule whose lists are laid out
 
-// Whether a window may be skipped: it is not the first, and no marked day lies between its start and the start of the window before, nor
-// between the two ends. Cost: a look at each of those days.
-fn skips(initial: bool, days: &[u8], before: Stretch, here: Stretch) -> bool
-    requires { ⌜ (before .from ≤ 36525) × (here .from < length (now days)) × (here .to ≤ length (now days)) ⌝ }
-    ensures { λ x. ⌜ (x ≡ true → (initial ≡ false) × Still (now (days .entry)) (before .from) (before .to) (here .from) (here .to)) ⌝ }
-{
-    if initial {
-        return false;
-    }
-    let ended = marks::next_marked(days, before.from + 1, here.from + 1);
-    if ended <= here.from {
-        return false;
-    }
-    let begun = marks::next_marked(days, before.to, here.to);
-    if begun < here.to {
-        return false;
-    }
-    true
-}
-
-// The lowest offender of a window, the one at number `looked`, the window before having none: nothing is looked at where it may be skipped.
-// Cost: a look at each day between the two starts and between the two ends; then, unless it is skipped, the look into the window.
-fn window_offender(
-    looked: usize,
-    kind: u8,
-    start: usize,
-    next: &[u16],
-    last: &[u16],
-    lower: &[u16],
-    held_start: usize,
-    held_next: &[u16],
-    held_last: &[u16],
-    held_lower: &[u16],
-    begin: &[u16],
-    end: &[u16],
-    rep: &[u16],
-    group: &[u16],
-    days: &[u8],
-    distinct: bool,
-    low: usize,
-    high: usize,
-    before: Stretch,
-    here: Stretch,
-    stamp: &mut [u16],
-    owner: &mut [u16],
-    seen: &mut [u32],
-) -> Found
-    requires { ⌜ Lookable kind start (now next) (now last) (now lower) «held_start» (now «held_next») (now «held_last») (now «held_lower») (now begin) (now end) (now rep) (now group) distinct low high looked (now stamp) (now owner) (now seen) × (36526 ≤ length (now days)) × (looked ≤ 36525) × (before .from ≤ 36525) × (here .from ≤ 36524) × (here .to ≤ 36525) ⌝ }
-    ensures answer { λ x. ⌜ ((doc : Doc) → (q r : Rule) → Laid doc q r start (now (next .entry)) (now (last .entry)) (now (lower .entry)) «held_start» (now («held_next» .entry)) (now («held_last» .entry)) (now («held_lower» .entry)) (now (begin .entry)) (now (end .entry)) (now (rep .entry)) (now (group .entry)) distinct low high → kind ≡ r .kind → Marks (isChange doc q r) 36526 (now (days .entry)) → ((looked ≡ 1 → ⊥) → (before .from ≤ here .from) × (before .to ≤ here .to) × (offenderOver doc q r (before .from) (before .to) ≡ Nothing)) → x ≡ offenderOver doc q r (here .from) (here .to)) ⌝ }
-    ensures stamps { λ x. ⌜ ((i : ℕ) → getD (now (stamp .exit)) i 0 < looked + 1) ⌝ }
-    ensures tokens { λ x. ⌜ ((i : ℕ) → getD (now (seen .exit)) i 0 < (looked + 1) * limit) ⌝ }
-{
-    if skips(looked == 1, days, before, here) {
-        return Found::Nothing;
-    }
-    window::offender_in(
-        kind,
-        start,
-        next,
-        last,
-        lower,
-        held_start,
-        held_next,
-        held_last,
-        held_lower,
-        begin,
-        end,
-        rep,
-        group,
-        distinct,
-        low,
-        high,
-        here.from as u16,
-        here.to as u16,
-        looked as u16,
-        stamp,
-        owner,
-        seen,
-    )
-}
-
 // The first window with an offender, with its lowest one and how many windows were looked at: the first window is at `place`, each spans
-// `span` places and the next one is `slide` further on, while the start lies before day `close`. Cost: for each window a look at each day
-// between its start and that of the window before and between the two ends, and where one of them is marked the look into the window.
+// `span` places and the next one is `slide` further on, while the start lies before day `close`. Windows that see the same as one without
+// offender are counted and leapt over. Cost: a look at each day for the starts and one for the ends, for months a step to each window; and
+// the look into the first window and into each that sees other versions than the one before.
 pub fn walk(
     table: &[u16; 1201],
     monthly: bool,
@@ -143,11 +59,9 @@ pub fn walk(
     let mut looked: usize = 0;
     let mut k = place;
     let mut here = places::window_at(table, monthly, k, span, close);
-    let mut before = here;
     while here.from < close {
-        looked += 1;
-        let found = window_offender(
-            looked,
+        let number = looked + 1;
+        let found = window::offender_in(
             kind,
             start,
             next,
@@ -161,21 +75,22 @@ pub fn walk(
             end,
             rep,
             group,
-            days,
             distinct,
             low,
             high,
-            before,
-            here,
+            here.from as u16,
+            here.to as u16,
+            number as u16,
             stamp,
             owner,
             seen,
         );
         if let Found::At(v) = found {
-            return Verdict::Fails(here.from, v, looked);
+            return Verdict::Fails(here.from, v, number);
         }
-        before = here;
-        k += slide;
+        let alike = leaps::alike(table, monthly, days, k, here, span, slide, close);
+        looked += alike;
+        k += alike * slide;
         here = places::window_at(table, monthly, k, span, close);
     }
     Verdict::Holds(looked)

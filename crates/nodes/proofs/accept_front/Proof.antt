@@ -8,9 +8,6 @@ use Rattle.nodes.proofs.Fronts.{front-even}
 use borrow.Author.Needs.{needs}
 use Rattle.nodes.proofs.accept_front.Statement.{statement}
 use Rattle.nodes.proofs.accept_front.Tie as tie
-use Rattle.nodes.proofs.accept_front.Reads as reads
-use Rattle.nodes.proofs.accept_front.Lts as lts
-use Rattle.document.proofs.accept_columns.Reads as accept-columns-reads
 
 sub-accept-columns : tie.Need-sub-accept-columns
 sub-accept-columns c = search needs

@@ -1,6 +1,5 @@
 -- `nodes::load` meets its contract: a refusal leaves every column, and an accepted image fills each with its field.
-use mathlib.Core.Path.{_≡_, refl, sym, _∙_}
-use native.Mathlib.Omega.{arith}
+use mathlib.Core.Path.{refl, sym, _∙_}
 use lib.ListN.{length}
 use Rattle.meaning.specs.declared.Node.{Node}
 use Rattle.meaning.specs.Nodes.{nodeIn}
@@ -8,12 +7,6 @@ use Rattle.nodes.proofs.Loads.{blocks-good, as-image, no-room, with-roo
 use borrow.Author.Needs.{needs}
 use Rattle.nodes.proofs.load.Statement.{statement}
 use Rattle.nodes.proofs.load.Tie as tie
-use Rattle.nodes.proofs.load.Reads as reads
-use Rattle.nodes.proofs.load.Lts as lts
-use Rattle.block.proofs.count_records.Reads as count-records-reads
-use Rattle.nodes.proofs.has_room.Reads as has-room-reads
-use Rattle.nodes.proofs.read_nodes.Reads as read-nodes-reads
-use Rattle.nodes.proofs.unpack.Reads as unpack-reads
 
 read-nodes-requires : tie.Need-read-nodes-requires
 read-nodes-requires c κs = search needs

@@ -3,12 +3,6 @@ use native.Mathlib.Omega.{arith}
 use borrow.Author.Needs.{needs}
 use Rattle.nodes.proofs.unpack.Statement.{statement}
 use Rattle.nodes.proofs.unpack.Tie as tie
-use Rattle.nodes.proofs.unpack.Reads as reads
-use Rattle.nodes.proofs.unpack.Lts as lts
-use Rattle.nodes.proofs.fill.fill_bytes.Reads as fill-bytes-reads
-use Rattle.nodes.proofs.fill.fill_pairs.Reads as fill-pairs-reads
-use Rattle.nodes.proofs.fill.fill_quads.Reads as fill-quads-reads
-use Rattle.nodes.proofs.fill.fill_signed.Reads as fill-signed-reads
 
 fill-bytes-requires : tie.Need-fill-bytes-requires
 fill-bytes-requires c κs = search needs

@@ -1,63 +1,51 @@
--- `nodes::fill::fill_signed` meets its contract: after i records the column holds i entries, and the rest as it was.
-use mathlib.Core.Path.{_≡_, refl, ap, _∙_}
-use Prim.Native.Nat.{_≤_, _<_, _-_}
+-- `nodes::fill::fill_signed` meets its contract: after b blocks the column holds the entries of their records, and the rest as it was.
+use mathlib.Core.Path.{_≡_, refl}
+use Prim.Native.Nat.{_≤_, _+_, _-_, _*_, _/_, _%_}
 use native.Mathlib.Omega.{arith}
 use borrow.Author.Needs.{needs}
 use lib.ListN.{length}
-use mir.Syntax.{w32}
-use Rattle.numbers.proofs.Signs.{given}
 use Rattle.meaning.specs.Bytes.{four, signed}
 use Rattle.meaning.specs.Block.{nodeForm, recordOf}
 use Rattle.nodes.specs.Filled.{filled}
-use Rattle.nodes.proofs.Fills.{filled-none, filled-more, filled-all}
+use Rattle.nodes.proofs.Fills.{filled-none, filled-as}
 use Rattle.nodes.proofs.fill.fill_signed.Statement.{statement}
 use Rattle.nodes.proofs.fill.fill_signed.Tie as tie
-use Rattle.nodes.proofs.fill.fill_signed.Reads as reads
-use Rattle.nodes.proofs.fill.fill_signed.Lts as lts
-use Rattle.block.proofs.record_part.Reads as record-part-reads
-use Rattle.numbers.proofs.signed_at.Reads as signed-at-reads
 
 abbrev Inv-loop : tie.InvT-loop
-Inv-loop image n offset out₀ i₀ out i = (i ≤ n) × (length out ≡ length out₀) × (out ≡ filled (λ k. signed (four (recordOf nodeForm image k) offset)) i out₀)
+Inv-loop image n offset out₀ full b₀ out b = (b ≤ full) × (length out ≡ length out₀) × (out ≡ filled (λ i. signed (four (recordOf nodeForm image i) offset)) (25 * b) out₀)
 
 abbrev μ-loop : tie.MeasureT-loop
-μ-loop image n offset out₀ i₀ out i = n - i
+μ-loop image n offset out₀ full b₀ out b = full - b
 
 loop-holds : tie.Need-loop-holds Inv-loop μ-loop
 loop-holds c = (search needs, refl, filled-none _ _)
 
-record-part-requires : tie.Need-record-part-requires Inv-loop μ-loop
-record-part-requires c κs = search needs
+signed-of-block-requires : tie.Need-signed-of-block-requires Inv-loop μ-loop
+signed-of-block-requires c κs = search needs
 
-signed-at-requires : tie.Need-signed-at-requires Inv-loop μ-loop
-signed-at-requires c κs = search needs
-
-mul-t10 : tie.Need-mul-t10 Inv-loop μ-loop
-mul-t10 c = search needs
-
-slice-set-from-out : tie.Need-slice-set-from-out Inv-loop μ-loop
-slice-set-from-out c = search needs
-
-add-i : tie.Need-add-i Inv-loop μ-loop
-add-i c = search needs
+add-b : tie.Need-add-b Inv-loop μ-loop
+add-b c = search needs
 
 loop-less : tie.Need-loop-less Inv-loop μ-loop
 loop-less c = search needs
 
 loop-again : tie.Need-loop-again Inv-loop μ-loop
 loop-again c =
-    let l = c .before .before .before .loop in
-    let a = c .before .before .before .before .before .args in
-    let room : l .i < length (a .out .now) = search needs in
-    (search needs, search needs, filled-more _ (l .i) (a .out .now) (l .out) _ room (l .inv .2) (given w32 (c .signed-at .ok) ∙ c .signed-at .ensures ∙ ap (λ s. signed (four s (a .offset))) (c .before .record-part .ensures .bytes)))
+    let l = c .before .before .before .before .loop in
+    (search needs, search needs, filled-as _ (25 * l .b + 25) (25 * (l .b + 1)) _ _ (omega arith) (omega arith) (c .before .signed-of-block .ensures _ (l .inv .2)))
+
+signed-of-block-requires-2 : tie.Need-signed-of-block-requires-2 Inv-loop μ-loop
+signed-of-block-requires-2 c κs = search needs
 
 same-length : tie.Need-same-length Inv-loop μ-loop
 same-length c = search needs
 
 returns : tie.Need-returns Inv-loop μ-loop
 returns c =
-    let l = c .before .loop in
-    filled-all _ (l .i) _ _ (l .out) (l .inv .0) (search needs) (l .inv .2)
+    let l = c .before .before .before .before .loop in
+    let n = c .before .before .before .before .before .before .args .n in
+    filled-as _ (25 * (n / 25) + n % 25) n _ _ (omega arith) (omega arith)
+    (c .before .signed-of-block2 .ensures _ (filled-as _ (25 * l .b) (25 * (n / 25)) _ (l .out) (search needs) (search needs) (l .inv .2)))
 
 pub fill-signed-spec : {M : Type 1} → statement M
 fill-signed-spec =
@@ -66,12 +54,10 @@ fill-signed-spec =
     Inv-loop
     μ-loop
     loop-holds
-    record-part-requires
-    signed-at-requires
-    mul-t10
-    slice-set-from-out
-    add-i
+    signed-of-block-requires
+    add-b
     loop-less
     loop-again
+    signed-of-block-requires-2
     same-length
     returns)

@@ -1,0 +1,87 @@
+-- `nodes::fill::signed_of_block` meets its contract: after k records the column has grown by k entries.
+use mathlib.Core.Path.{_≡_, refl, ap, _∙_}
+use Prim.Native.Nat.{_≤_, _-_, _*_}
+use native.Mathlib.Omega.{arith}
+use borrow.Author.Needs.{needs}
+use lib.ListN.{length}
+use mir.Syntax.{w32}
+use Rattle.numbers.proofs.Signs.{given}
+use Rattle.meaning.specs.Bytes.{four, signed}
+use Rattle.meaning.specs.Block.{nodeForm, recordOf}
+use Rattle.nodes.specs.Filled.{Grows}
+use Rattle.nodes.proofs.Fills.{placed, grows-none, grows-more, grows-all}
+use Rattle.nodes.proofs.fill.signed_of_block.Statement.{statement}
+use Rattle.nodes.proofs.fill.signed_of_block.Tie as tie
+
+abbrev Inv-loop : tie.InvT-loop
+Inv-loop image b m offset out₀ first at k₀ out k = (k ≤ m) × (length out ≡ length out₀) × Grows (λ i. signed (four (recordOf nodeForm image i) offset)) (25 * b) k out₀ out
+
+abbrev μ-loop : tie.MeasureT-loop
+μ-loop image b m offset out₀ first at k₀ out k = m - k
+
+mul-first : tie.Need-mul-first Inv-loop μ-loop
+mul-first c = search needs
+
+mul-at : tie.Need-mul-at Inv-loop μ-loop
+mul-at c = search needs
+
+loop-holds : tie.Need-loop-holds Inv-loop μ-loop
+loop-holds c = (search needs, refl, grows-none _ _ _)
+
+record-from-requires : tie.Need-record-from-requires Inv-loop μ-loop
+record-from-requires c κs = search needs
+
+add-i : tie.Need-add-i Inv-loop μ-loop
+add-i c = search needs
+
+signed-at-requires : tie.Need-signed-at-requires Inv-loop μ-loop
+signed-at-requires c κs =
+    let p = placed (c .before .before .before .before .args .b) (c .before .before .loop .k) (c .record-from .ensures) (search needs) in
+    omega (arith, p .size, c .before .before .before .before .pre .1 .in-record)
+
+mul-t14 : tie.Need-mul-t14 Inv-loop μ-loop
+mul-t14 c = search needs
+
+slice-set-from-out : tie.Need-slice-set-from-out Inv-loop μ-loop
+slice-set-from-out c = search needs
+
+add-k : tie.Need-add-k Inv-loop μ-loop
+add-k c = search needs
+
+loop-less : tie.Need-loop-less Inv-loop μ-loop
+loop-less c = search needs
+
+loop-again : tie.Need-loop-again Inv-loop μ-loop
+loop-again c =
+    let l = c .before .before .before .loop in
+    let a = c .before .before .before .before .before .args in
+    let p = placed (a .b) (l .k) (c .before .record-from .ensures) (search needs) in
+    (search needs, search needs, grows-more _ (25 * a .b) (l .k) (a .out .now) (l .out) _ (search needs) (l .inv .2) (given w32 (c .signed-at .ok) ∙ c .signed-at .ensures ∙ ap (λ s. signed (four s (a .offset))) (p .bytes)))
+
+same-length : tie.Need-same-length Inv-loop μ-loop
+same-length c = search needs
+
+returns : tie.Need-returns Inv-loop μ-loop
+returns c =
+    let l = c .before .loop in
+    grows-all _ _ (l .k) _ _ (l .out) (l .inv .0) (search needs) (l .inv .2)
+
+pub signed-of-block-spec : {M : Type 1} → statement M
+signed-of-block-spec =
+    tie.close
+    (tie.spec
+    Inv-loop
+    μ-loop
+    mul-first
+    mul-at
+    loop-holds
+    record-from-requires
+    add-i
+    signed-at-requires
+    mul-t14
+    slice-set-from-out
+    add-k
+    loop-less
+    loop-again
+    same-length
+    returns)

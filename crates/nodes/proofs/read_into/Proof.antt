@@ -1,0 +1,117 @@
+-- `nodes::read_into` meets its contract: a block refuses, or the records are unpacked and the document in the columns decides.
+use mathlib.Core.Path.{sym, _∙_}
+use native.Mathlib.Omega.{arith}
+use Rattle.nodes.proofs.Fills.{filled-room}
+use Rattle.nodes.proofs.Loads.{by-block}
+use Rattle.nodes.proofs.Held.{unpacks-refused, unpacks}
+use borrow.Author.Needs.{needs}
+use Rattle.nodes.proofs.read_into.Statement.{statement}
+use Rattle.nodes.proofs.read_into.Tie as tie
+
+node-blocks-requires : tie.Need-node-blocks-requires
+node-blocks-requires c κs = search needs
+
+enum-told : tie.Need-enum-told
+enum-told c = search needs
+
+enum-told-2 : tie.Need-enum-told-2
+enum-told-2 c = search needs
+
+told-requires : tie.Need-told-requires
+told-requires c κs = search needs
+
+returns : tie.Need-returns
+returns c =
+    let b = c .before .before .before .node-blocks .ensures in
+    unpacks-refused (c .before .before .before .before .before .before .before .before .before .before .before .before .before .args .image .now) 0 (by-block (c .before .before .before .before .before .before .before .before .before .before .before .before .before .args .image .now) b (c .before .enum-told2 .given .1)) (c .before .enum-told2 .given .1) (c .told .ensures)
+
+count-records-requires : tie.Need-count-records-requires
+count-records-requires c κs = record { fair = search needs; accepted = sym (c .before .before .node-blocks .ensures) ∙ c .enum-told .given .1 }
+
+unpack-requires : tie.Need-unpack-requires
+unpack-requires c κs = search needs
+
+fill-pairs-requires : tie.Need-fill-pairs-requires
+fill-pairs-requires c κs =
+    let n = c .before .before .before .before .before .before .before .before .before .before .before .before .before .before .before .before .before .before .before .before .before .before .before .before .before .count-records .ensures in
+    record { inside = n .inside; in-record = omega arith; fits = omega (arith, n .few, c .before .before .before .before .before .before .before .before .before .before .before .before .before .before .before .before .before .before .before .before .before .before .before .before .before .before .before .before .before .before .before .before .before .before .before .before .before .before .pre .spare) }
+
+accept-front-requires : tie.Need-accept-front-requires
+accept-front-requires c κs =
+    let n = c .before .before .before .before .before .before .before .before .before .before .before .before .before .before .before .before .before .before .before .before .before .before .before .before .before .before .before .before .before .before .before .before .before .before .before .before .before .count-records in
+    let u = c .before .before .before .before .before .before .before .before .before .before .before .before .before .before .before .before .before .before .before .before .before .before .before .before .before .before .before .before .unpack .ensures in
+    record {
+      few = n .ensures .few;
+      kind = filled-room _ (n .result) _ _ (u .0);
+      vkind = filled-room _ (n .result) _ _ (u .1 .0);
+      name = filled-room _ (n .result) _ _ (u .1 .1 .0);
+      parent = filled-room _ (n .result) _ _ (u .1 .1 .1 .0);
+      begin = filled-room _ (n .result) _ _ (u .1 .1 .1 .1 .0);
+      end = filled-room _ (n .result) _ _ (u .1 .1 .1 .1 .1 .0);
+      value = filled-room _ (n .result) _ _ (u .1 .1 .1 .1 .1 .1 .0);
+      item = filled-room _ (n .result) _ _ (u .1 .1 .1 .1 .1 .1 .1);
+      spare = filled-room _ (n .result) _ _ (c .before .before .before .before .before .before .before .before .before .before .before .fill-pairs .ensures);
+    }
+
+told-requires-2 : tie.Need-told-requires-2
+told-requires-2 c κs = search needs
+
+same-length : tie.Need-same-length
+same-length c = search needs
+
+same-length-2 : tie.Need-same-length-2
+same-length-2 c = search needs
+
+same-length-3 : tie.Need-same-length-3
+same-length-3 c = search needs
+
+same-length-4 : tie.Need-same-length-4
+same-length-4 c = search needs
+
+same-length-5 : tie.Need-same-length-5
+same-length-5 c = search needs
+
+same-length-6 : tie.Need-same-length-6
+same-length-6 c = search needs
+
+same-length-7 : tie.Need-same-length-7
+same-length-7 c = search needs
+
+same-length-8 : tie.Need-same-length-8
+same-length-8 c = search needs
+
+same-length-9 : tie.Need-same-length-9
+same-length-9 c = search needs
+
+returns-2 : tie.Need-returns-2
+returns-2 c =
+    let n = c .before .before .before .before .before .before .before .before .before .before .before .before .before .before .before .before .before .before .before .before .before .before .before .before .before .before .before .before .before .before .before .before .before .before .before .before .before .before .before .count-records in
+    let blocks = c .before .before .before .before .before .before .before .before .before .before .before .before .before .before .before .before .before .before .before .before .before .before .before .before .before .before .before .before .before .before .before .before .before .before .before .before .before .before .before .before .before .before .node-blocks .ensures in
+    let u = c .before .before .before .before .before .before .before .before .before .before .before .before .before .before .before .before .before .before .before .before .before .before .before .before .before .before .before .before .before .before .unpack .ensures in
+    unpacks (c .before .before .before .before .before .before .before .before .before .before .before .before .before .before .before .before .before .before .before .before .before .before .before .before .before .before .before .before .before .before .before .before .before .before .before .before .before .before .before .before .before .before .before .before .before .before .before .before .before .before .before .before .args .image .now) (n .result) (n .ensures .count) (sym blocks ∙ c .before .before .before .before .before .before .before .before .before .before .before .before .before .before .before .before .before .before .before .before .before .before .before .before .before .before .before .before .before .before .before .before .before .before .before .before .before .before .before .before .enum-told .given .1) _ _ _ _ _ _ _ _ _
+    (u .0) (u .1 .0) (u .1 .1 .0) (u .1 .1 .1 .0) (u .1 .1 .1 .1 .0) (u .1 .1 .1 .1 .1 .0) (u .1 .1 .1 .1 .1 .1 .0) (u .1 .1 .1 .1 .1 .1 .1) (c .before .before .before .before .before .before .before .before .before .before .before .before .before .fill-pairs .ensures) (c .before .accept-front .ensures) (c .told2 .ensures)
+
+pub read-into-spec : {M : Type 1} → statement M
+read-into-spec =
+    tie.close
+    (tie.spec
+    node-blocks-requires
+    enum-told
+    enum-told-2
+    told-requires
+    returns
+    count-records-requires
+    unpack-requires
+    fill-pairs-requires
+    accept-front-requires
+    told-requires-2
+    same-length
+    same-length-2
+    same-length-3
+    same-length-4
+    same-length-5
+    same-length-6
+    same-length-7
+    same-length-8
+    same-length-9
+    returns-2)
