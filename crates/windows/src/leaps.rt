@@ -1,12 +1,12 @@
 // How far the walk may leap: how many windows, from one of them on, see the same versions.
 use crate::places::Stretch;
-ghost use Prim.Native.Nat.{ℕ, _+_, _≤_, _<_};
 ghost use mathlib.Core.Path.{_≡_};
 ghost use mathlib.Core.Bool.{false};
+ghost use Prim.Native.Nat.{ℕ, _+_, _≤_, _<_};
 ghost use lib.ListN.{length};
-ghost use Rattle.marks.specs.Marks.{marked};
 ghost use Rattle.calendar.specs.Entries.{MonthTable};
 ghost use Rattle.meaning.specs.Window.{least};
+ghost use Rattle.marks.specs.Marks.{marked};
 ghost use Rattle.windows.specs.Walkable.{Still, Going, Reaches, Within, Alike};
 
 // The marks of the eight days from day `at` on, as one number: where it is 0 none of them is marked. Cost: eight looks.

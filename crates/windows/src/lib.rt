@@ -24,7 +24,7 @@ pub mod judging; // judging.rt: the verdict on a rule whose lists are laid out
 // The first window with an offender, with its lowest one and how many windows were looked at: the first window is at `place`, each spans
 // `span` places and the next one is `slide` further on, while the start lies before day `close`. Windows that see the same as one without
 // offender are counted and leapt over. Cost: a look at each day for the starts and one for the ends, for months a step to each window; and
-// the look into the first window and into each that sees other versions than the one before.
+// the look into the first window and into one for each marked day that a start or an end passes, for months at most two.
 pub fn walk(
     table: &[u16; 1201],
     monthly: bool,
