@@ -54,26 +54,24 @@ module _ (p : ℕ → Bool) (n : ℕ) (rep : ℕ → ℕ) (row : ℕ → Bool) (
         up-to = λ h y. rw (l y) (most-by t (shows p n rep row y) (getD stamps y 0) (h y));
       }
 
-  module _ (needy : Bool) (class : ℕ) (owners : List ℕ) where
-    abbrev Ends : List ℕ → List ℕ → Bool → Type 0
-    Ends stamps′ owners′ answer = Met p n rep row needy v t class stamps owners stamps′ owners′ answer
+module _ (p : ℕ → Bool) (n : ℕ) (rep : ℕ → ℕ) (row : ℕ → Bool) (needy : Bool) (v base mine : ℕ) (tokens : List ℕ) where
+  -- the version is not present
+  pub met-absent : p v ≡ false → Met p n rep row needy v base mine tokens tokens false
+  met-absent e =
+      record {
+        answers = absent-test (p v) (lacking p n rep row needy || asks p n rep row (foreign base tokens mine)) e;
+        left = λ _ y. rw e;
+        below = λ m l s. s;
+      }
 
-    pub met-absent : p v ≡ false → Ends stamps owners false
-    met-absent e =
-        record {
-          answers = absent-test (p v) (lacking p n rep row needy || asks p n rep row (foreign t stamps owners class)) e;
-          seen = λ _ y. unstamped y e;
-          owned = λ _ y. rw e;
-          up-to = λ h. h;
-        }
-
-    -- it is, and the walk down its row gave the answer
-    pub met-claimed : p v ≡ true → (stamps′ owners′ : List ℕ) (answer : Bool) → Claimed p n rep row needy t class stamps owners stamps′ owners′ answer → Ends stamps′ owners′ answer
-    unfolding Laid
-    met-claimed e stamps′ owners′ answer s =
-        record {
-          answers = present-test (p v) _ answer e (s .answers);
-          seen = λ z. marked-present e stamps′ (s .stamp-laid z) .seen;
-          owned = λ z y. rw e (s .owner-laid z y);
-          up-to = s .up-to;
-        }
+  -- it is, and the walk down its row gave the answer
+  pub met-claimed : p v ≡ true → (mine′ : ℕ) → mine′ ≡ mine → (tokens′ : List ℕ) (answer : Bool) → Claimed p n rep row needy base mine′ tokens tokens′ answer
+      → Met p n rep row needy v base mine tokens tokens′ answer
+  unfolding Laid
+  met-claimed e mine′ i tokens′ answer s′ =
+      let s : Claimed p n rep row needy base mine tokens tokens′ answer = rw (sym i) s′ in
+      record {
+        answers = present-test (p v) _ answer e (s .answers);
+        left = λ z y. rw e (s .left z y);
+        below = s .below;
+      }

@@ -1,23 +1,23 @@
--- The walk from row to row: the stamps tell the values of the rows passed, their owners tell the class of the holders, and none of these rows offends.
+-- The walk from row to row: the stamps, or the tokens, tell the values of the rows passed, a token the class of the holders, and none of these rows offends.
 use mathlib.Core.Path.{_≡_, refl, sym, _∙_, ap}
 use mathlib.Core.Logic.{⊎-elim}
-use mathlib.Core.Bool.{Bool, true, false, _&&_, _||_, not}
+use mathlib.Core.Bool.{Bool, true, false, _&&_, _||_, not, cond, or-false}
 use mathlib.Core.List.{List}
 use Prim.Native.Nat.{ℕ, suc, _≤_, _<_}
 use native.Mathlib.Nat.{eq-or-lt-of-le}
 use native.Mathlib.Omega.{arith}
-use lib.Dec.{eqb}
+use lib.Dec.{leb, eqb}
 use lib.ListN.{getD}
-use borrow.Author.Tests.{ne-eqb, eqb-true}
+use borrow.Author.Tests.{ne-eqb, eqb-true, le-leb, lt-leb}
 use Rattle.meaning.specs.declared.Found.the-variants.{At, Nothing}
 use Rattle.meaning.specs.Walk.{any, first}
-use Rattle.meaning.proofs.Basics.{went, le-or-lt, clear, tests-same, and-l, and-r, both, neither-r}
+use Rattle.meaning.proofs.Basics.{went, le-or-lt, clear, tests-same, and-l, and-r, both, or-r, neither-r}
 use Rattle.meaning.proofs.Walks.{any-none, any-some, any-true, any-false}
 use Rattle.meaning.proofs.Loops.{any-last}
 use Rattle.marks.proofs.After.{Next}
 use Rattle.day.specs.Row.{stamped}
 use Rattle.day.proofs.Skipping.{any-skips}
-use Rattle.sharing.specs.Row.{someOf, foreign, asks, shows, lacking, Marked, Met}
+use Rattle.sharing.specs.Row.{someOf, taken, foreign, asks, shows, lacking, Marked, Met}
 use Rattle.sharing.specs.Table.{holder, rival, rowShares, rowMisses}
 use Rattle.sharing.proofs.Passing.{Come, come-to, Clean, clean-start, clean-step, found-at, found-none}
 
@@ -44,6 +44,11 @@ module _ (p : ℕ → Bool) (n : ℕ) (rep : ℕ → ℕ) (row test : ℕ → Bo
       any-some (λ f. row f && (p f && test (rep f))) 0 n (o .at)
       (record { from = omega arith; below = omega (arith, o .low); passes = both (row (o .at)) _ (o .in-row) (both (p (o .at)) _ (o .here) (o .passes)) })
 
+-- an entry that is a token of this window or as it was
+taken-by : (base mine : ℕ) → base ≤ mine → (b : Bool) (k : ℕ) → leb base (cond b mine k) ≡ (leb base k || b)
+taken-by base mine l true k = le-leb base mine l ∙ sym (or-r (leb base k) true refl)
+taken-by base mine l false k = sym (or-false (leb base k))
+
 module _ (p : ℕ → Bool) (n : ℕ) (rep : ℕ → ℕ) (chosen : ℕ → Bool) (rows : ℕ → ℕ → Bool) where
   abbrev holds : ℕ → ℕ → Bool
   holds = holder p n rep chosen rows
@@ -56,160 +61,165 @@ module _ (p : ℕ → Bool) (n : ℕ) (rep : ℕ → ℕ) (chosen : ℕ → Bool
   unfolding holder
   held y u e = rw e
 
+  -- what is told are the values of the rows below v
+  abbrev Seen : ℕ → (ℕ → Bool) → Type 0
+  Seen v told = (y : ℕ) → told y ≡ any (holds y) 0 v
+
+  seen-start : (start : ℕ) → Next chosen n 0 start → (told : ℕ → Bool) → ((y : ℕ) → told y ≡ false) → Seen start told
+  seen-start start to told none y = none y ∙ sym (any-none (holds y) 0 start (λ u a b. not-held y u (to .before u a (omega arith))))
+
+  seen-step : (v : ℕ) (told : ℕ → Bool) → Seen v told → chosen v ≡ true → (next : ℕ) → Next chosen n (suc v) next
+      → (told′ : ℕ → Bool) → ((y : ℕ) → told′ y ≡ (told y || (p v && shows p n rep (rows v) y))) → Seen next told′
+  seen-step v told s c next to told′ more y =
+      more y ∙ ap (λ b. b || (p v && shows p n rep (rows v) y)) (s y)
+      ∙ sym (any-skips (holds y) (suc v) next (to .from) (λ u a b. not-held y u (to .before u a b)) ∙ any-last (holds y) v ∙ ap (λ b. any (holds y) 0 v || b) (held y v c))
+
   module _ (t : ℕ) where
-    -- the stamps tell the values of the rows below v
-    abbrev Seen : ℕ → List ℕ → Type 0
-    Seen v stamps = (y : ℕ) → stamped t stamps y ≡ any (holds y) 0 v
-
-    seen-start : (start : ℕ) → Next chosen n 0 start → (stamps : List ℕ) → ((x : ℕ) → getD stamps x 0 < t) → Seen start stamps
-    seen-start start to stamps low y =
-        ne-eqb (getD stamps y 0) t (λ q. omega (arith, low y)) ∙ sym (any-none (holds y) 0 start (λ u a b. not-held y u (to .before u a (omega arith))))
-
-    seen-step : (v : ℕ) (stamps : List ℕ) → Seen v stamps → chosen v ≡ true → (next : ℕ) → Next chosen n (suc v) next
-        → (stamps′ : List ℕ) → ((y : ℕ) → stamped t stamps′ y ≡ (stamped t stamps y || (p v && shows p n rep (rows v) y))) → Seen next stamps′
-    seen-step v stamps s c next to stamps′ more y =
-        more y ∙ ap (λ b. b || (p v && shows p n rep (rows v) y)) (s y)
-        ∙ sym (any-skips (holds y) (suc v) next (to .from) (λ u a b. not-held y u (to .before u a b)) ∙ any-last (holds y) v ∙ ap (λ b. any (holds y) 0 v || b) (held y v c))
-
     -- the walk has come to record v, and the stamps tell the values below it
     pub record Stamped (v : ℕ) (stamps : List ℕ) : Type 0 where
       pub come : Come n chosen v
-      pub seen : Seen v stamps
+      pub seen : Seen v (stamped t stamps)
 
     pub stamped-start : (start : ℕ) → Next chosen n 0 start → (stamps : List ℕ) → ((x : ℕ) → getD stamps x 0 < t) → Stamped start stamps
-    stamped-start start to stamps low = record { come = come-to n chosen 0 start to; seen = seen-start start to stamps low }
+    stamped-start start to stamps low =
+        record {
+          come = come-to n chosen 0 start to;
+          seen = seen-start start to (stamped t stamps) (λ y. ne-eqb (getD stamps y 0) t (λ q. omega (arith, low y)));
+        }
 
     pub stamped-step : (v : ℕ) (stamps : List ℕ) → Stamped v stamps → v < n → (stamps′ : List ℕ) → Marked p n rep (rows v) v t stamps stamps′
         → (next : ℕ) → Next chosen n (suc v) next → Stamped next stamps′
     stamped-step v stamps s h stamps′ met next to =
-        record { come = come-to n chosen (suc v) next to; seen = seen-step v stamps (s .seen) (s .come .is-chosen h) next to stamps′ (met .seen) }
+        record { come = come-to n chosen (suc v) next to; seen = seen-step v (stamped t stamps) (s .seen) (s .come .is-chosen h) next to (stamped t stamps′) (met .seen) }
 
     -- at the end, they tell the values of all rows
     pub stamped-all : (v : ℕ) (stamps : List ℕ) → Stamped v stamps → n ≤ v → (y : ℕ) → stamped t stamps y ≡ any (holds y) 0 n
     stamped-all v stamps s h y = let e : v ≡ n = omega (arith, s .come .most) in s .seen y ∙ ap (any (holds y) 0) e
 
-    -- the class of each record, and whether a value is asked for
-    module _ (class : ℕ → ℕ) (needy : Bool) where
-      abbrev bad : ℕ → Bool
-      bad = rowShares p n rep chosen rows class needy
+  -- the first token of the window, the token of each record's class, and whether a value is asked for
+  module _ (base : ℕ) (class : ℕ → ℕ) (needy : Bool) where
+    abbrev bad : ℕ → Bool
+    bad = rowShares p n rep chosen rows class needy
 
-      bad-chosen : (u : ℕ) → chosen u ≡ false → bad u ≡ false
-      unfolding rowShares
-      bad-chosen u e = rw e
+    bad-chosen : (u : ℕ) → chosen u ≡ false → bad u ≡ false
+    unfolding rowShares
+    bad-chosen u e = rw e
 
-      -- the walk has come to record v: no row below it offends, and the holders of each value there have one class, its owner
-      pub record Shared (v : ℕ) (stamps owners : List ℕ) : Type 0 where
-        pub come : Come n chosen v
-        pub clean : Clean n chosen bad v
-        pub seen : Seen v stamps
-        pub own : (y u : ℕ) → u < v → holds y u ≡ true → getD owners y 0 ≡ class u
+    -- the walk has come to record v: no row below it offends, the tokens tell the values there, and each is that of every holder's class
+    pub record Shared (v : ℕ) (tokens : List ℕ) : Type 0 where
+      pub come : Come n chosen v
+      pub clean : Clean n chosen bad v
+      pub seen : Seen v (taken base tokens)
+      pub own : (y u : ℕ) → u < v → holds y u ≡ true → getD tokens y 0 ≡ class u
 
-      pub shared-start : (start : ℕ) → Next chosen n 0 start → (stamps : List ℕ) → ((x : ℕ) → getD stamps x 0 < t) → (owners : List ℕ) → Shared start stamps owners
-      shared-start start to stamps low owners =
-          record {
-            come = come-to n chosen 0 start to;
-            clean = clean-start n chosen bad bad-chosen start to;
-            seen = seen-start start to stamps low;
-            own = λ y u h i. absurd (clear i (not-held y u (to .before u (omega arith) h)));
-          }
+    pub shared-start : (start : ℕ) → Next chosen n 0 start → (tokens : List ℕ) → ((x : ℕ) → getD tokens x 0 < base) → Shared start tokens
+    shared-start start to tokens low =
+        record {
+          come = come-to n chosen 0 start to;
+          clean = clean-start n chosen bad bad-chosen start to;
+          seen = seen-start start to (taken base tokens) (λ y. lt-leb base (getD tokens y 0) (low y));
+          own = λ y u h i. absurd (clear i (not-held y u (to .before u (omega arith) h)));
+        }
 
-      pub shared-end : (v : ℕ) (stamps owners : List ℕ) → Shared v stamps owners → n ≤ v → Nothing ≡ first bad 0 n
-      shared-end v stamps owners s h = found-none n chosen bad v h (s .clean)
+    pub shared-end : (v : ℕ) (tokens : List ℕ) → Shared v tokens → n ≤ v → Nothing ≡ first bad 0 n
+    shared-end v tokens s h = found-none n chosen bad v h (s .clean)
 
-      module _ (v : ℕ) (stamps owners : List ℕ) (s : Shared v stamps owners) where
-        -- a value whose owner is of another class is one that a rival holds
-        rival-seen : asks p n rep (rows v) (foreign t stamps owners (class v)) ≡ true → any (rival p n rep chosen rows class v) 0 v ≡ true
-        unfolding rival
-        rival-seen e =
-            let o = one-asked p n rep (rows v) (foreign t stamps owners (class v)) e in
-            let x = rep (o .at) in
-            let k = any-true (holds x) 0 v (sym (s .seen x) ∙ and-l (stamped t stamps x) _ (o .passes)) in
-            let u = k .0 in
-            let h : u < v = omega (arith, k .1 .below) in
-            let other = and-r (stamped t stamps x) (not (eqb (getD owners x 0) (class v))) (o .passes) in
-            any-some (rival p n rep chosen rows class v) 0 v u
-            (record {
-              from = omega arith;
-              below = omega arith;
-              passes =
-                  both (not (eqb (class u) (class v))) _ (rw (s .own x u h (k .1 .passes)) at other)
-                  (asks-one p n rep (rows v) (λ z. holds z u) (record { at = o .at; low = o .low; in-row = o .in-row; here = o .here; passes = k .1 .passes }));
-            })
+    module _ (v : ℕ) (tokens : List ℕ) (s : Shared v tokens) where
+      -- a value with a token of another class is one that a rival holds
+      rival-seen : asks p n rep (rows v) (foreign base tokens (class v)) ≡ true → any (rival p n rep chosen rows class v) 0 v ≡ true
+      unfolding rival
+      rival-seen e =
+          let o = one-asked p n rep (rows v) (foreign base tokens (class v)) e in
+          let x = rep (o .at) in
+          let k = any-true (holds x) 0 v (sym (s .seen x) ∙ and-l (taken base tokens x) _ (o .passes)) in
+          let u = k .0 in
+          let h : u < v = omega (arith, k .1 .below) in
+          let other = and-r (taken base tokens x) (not (eqb (getD tokens x 0) (class v))) (o .passes) in
+          any-some (rival p n rep chosen rows class v) 0 v u
+          (record {
+            from = omega arith;
+            below = omega arith;
+            passes =
+                both (not (eqb (class u) (class v))) _ (rw (s .own x u h (k .1 .passes)) at other)
+                (asks-one p n rep (rows v) (λ z. holds z u) (record { at = o .at; low = o .low; in-row = o .in-row; here = o .here; passes = k .1 .passes }));
+          })
 
-        seen-rival : any (rival p n rep chosen rows class v) 0 v ≡ true → asks p n rep (rows v) (foreign t stamps owners (class v)) ≡ true
-        unfolding rival
-        seen-rival e =
-            let k = any-true (rival p n rep chosen rows class v) 0 v e in
-            let u = k .0 in
-            let h : u < v = omega (arith, k .1 .below) in
-            let other = and-l (not (eqb (class u) (class v))) (asks p n rep (rows v) (λ z. holds z u)) (k .1 .passes) in
-            let o = one-asked p n rep (rows v) (λ z. holds z u) (and-r (not (eqb (class u) (class v))) _ (k .1 .passes)) in
-            let x = rep (o .at) in
-            asks-one p n rep (rows v) (foreign t stamps owners (class v))
-            (record {
-              at = o .at;
-              low = o .low;
-              in-row = o .in-row;
-              here = o .here;
-              passes =
-                  both (stamped t stamps x) _ (s .seen x ∙ any-some (holds x) 0 v u (record { from = omega arith; below = omega arith; passes = o .passes }))
-                  (rw (s .own x u h (o .passes)) other);
-            })
+      seen-rival : any (rival p n rep chosen rows class v) 0 v ≡ true → asks p n rep (rows v) (foreign base tokens (class v)) ≡ true
+      unfolding rival
+      seen-rival e =
+          let k = any-true (rival p n rep chosen rows class v) 0 v e in
+          let u = k .0 in
+          let h : u < v = omega (arith, k .1 .below) in
+          let other = and-l (not (eqb (class u) (class v))) (asks p n rep (rows v) (λ z. holds z u)) (k .1 .passes) in
+          let o = one-asked p n rep (rows v) (λ z. holds z u) (and-r (not (eqb (class u) (class v))) _ (k .1 .passes)) in
+          let x = rep (o .at) in
+          asks-one p n rep (rows v) (foreign base tokens (class v))
+          (record {
+            at = o .at;
+            low = o .low;
+            in-row = o .in-row;
+            here = o .here;
+            passes =
+                both (taken base tokens x) _ (s .seen x ∙ any-some (holds x) 0 v u (record { from = omega arith; below = omega arith; passes = o .passes }))
+                (rw (s .own x u h (o .passes)) other);
+          })
 
-        rivals : asks p n rep (rows v) (foreign t stamps owners (class v)) ≡ any (rival p n rep chosen rows class v) 0 v
-        rivals = tests-same _ _ rival-seen seen-rival
+      rivals : asks p n rep (rows v) (foreign base tokens (class v)) ≡ any (rival p n rep chosen rows class v) 0 v
+      rivals = tests-same _ _ rival-seen seen-rival
 
-        -- the row of v was looked at
-        module _ (h : v < n) (stamps′ owners′ : List ℕ) (answer : Bool) (met : Met p n rep (rows v) needy v t (class v) stamps owners stamps′ owners′ answer) where
-          answer-is : bad v ≡ answer
-          unfolding rowShares
-          answer-is = rw (s .come .is-chosen h, sym rivals) (sym (met .answers))
+      -- the row of v was looked at
+      module _ (h : v < n) (tokens′ : List ℕ) (answer : Bool) (met : Met p n rep (rows v) needy v base (class v) tokens tokens′ answer) where
+        answer-is : bad v ≡ answer
+        unfolding rowShares
+        answer-is = rw (s .come .is-chosen h, sym rivals) (sym (met .answers))
 
-          pub shared-found : answer ≡ true → At v ≡ first bad 0 n
-          shared-found y = found-at n chosen bad v h (s .clean) (answer-is ∙ y)
+        pub shared-found : answer ≡ true → At v ≡ first bad 0 n
+        shared-found y = found-at n chosen bad v h (s .clean) (answer-is ∙ y)
 
-          module _ (z : answer ≡ false) where
-            -- a record below v that holds a value of the row of v has the class of v
-            alike : (y u : ℕ) → u < v → holds y u ≡ true → p v && shows p n rep (rows v) y ≡ true → class v ≡ class u
-            unfolding rival shows
-            alike y u l i e =
-                let o = one-asked p n rep (rows v) (λ x. eqb x y) (and-r (p v) _ e) in
-                let x : rep (o .at) ≡ y = eqb-true (rep (o .at)) y (o .passes) in
-                let held-by = asks-one p n rep (rows v) (λ w. holds w u) (record { at = o .at; low = o .low; in-row = o .in-row; here = o .here; passes = rw x i }) in
-                let no : any (rival p n rep chosen rows class v) 0 v ≡ false = sym rivals ∙ neither-r (lacking p n rep (rows v) needy) _ (rw (and-l (p v) _ e) at (sym (met .answers) ∙ z)) in
-                ⊎-elim
-                (λ q. sym (eqb-true (class u) (class v) q))
-                (λ q. absurd (clear (both (not (eqb (class u) (class v))) _ (rw q refl) held-by) (any-false (rival p n rep chosen rows class v) 0 v no u (omega arith) (omega arith))))
-                (went (eqb (class u) (class v)))
+        module _ (z : answer ≡ false) where
+          -- a record below v that holds a value of the row of v has the class of v
+          alike : (y u : ℕ) → u < v → holds y u ≡ true → p v && shows p n rep (rows v) y ≡ true → class v ≡ class u
+          unfolding rival shows
+          alike y u l i e =
+              let o = one-asked p n rep (rows v) (λ x. eqb x y) (and-r (p v) _ e) in
+              let x : rep (o .at) ≡ y = eqb-true (rep (o .at)) y (o .passes) in
+              let held-by = asks-one p n rep (rows v) (λ w. holds w u) (record { at = o .at; low = o .low; in-row = o .in-row; here = o .here; passes = rw x i }) in
+              let no : any (rival p n rep chosen rows class v) 0 v ≡ false = sym rivals ∙ neither-r (lacking p n rep (rows v) needy) _ (rw (and-l (p v) _ e) at (sym (met .answers) ∙ z)) in
+              ⊎-elim
+              (λ q. sym (eqb-true (class u) (class v) q))
+              (λ q. absurd (clear (both (not (eqb (class u) (class v))) _ (rw q refl) held-by) (any-false (rival p n rep chosen rows class v) 0 v no u (omega arith) (omega arith))))
+              (went (eqb (class u) (class v)))
 
-            -- what the row of v holds is its own, and the rest is as before
-            own-next : (y u : ℕ) → u ≤ v → holds y u ≡ true → getD owners′ y 0 ≡ class u
-            own-next y u l i =
-                met .owned z y
-                ∙ ⊎-elim
-                (λ q.
-                let e : p v && shows p n rep (rows v) y ≡ true = sym (held y v (s .come .is-chosen h)) ∙ ap (holds y) (sym q) ∙ i in
-                rw e (ap class (sym q)))
-                (λ (m : u < v).
-                ⊎-elim
-                (λ e. rw e (alike y u m i e))
-                (λ e. rw e (s .own y u m i))
-                (went (p v && shows p n rep (rows v) y)))
-                (eq-or-lt-of-le l)
+          -- what the row of v holds is its own, and the rest is as before
+          own-next : (y u : ℕ) → u ≤ v → holds y u ≡ true → getD tokens′ y 0 ≡ class u
+          own-next y u l i =
+              met .left z y
+              ∙ ⊎-elim
+              (λ q.
+              let e : p v && shows p n rep (rows v) y ≡ true = sym (held y v (s .come .is-chosen h)) ∙ ap (holds y) (sym q) ∙ i in
+              rw e (ap class (sym q)))
+              (λ (m : u < v).
+              ⊎-elim
+              (λ e. rw e (alike y u m i e))
+              (λ e. rw e (s .own y u m i))
+              (went (p v && shows p n rep (rows v) y)))
+              (eq-or-lt-of-le l)
 
-            pub shared-step : (next : ℕ) → Next chosen n (suc v) next → Shared next stamps′ owners′
-            shared-step next to =
-                record {
-                  come = come-to n chosen (suc v) next to;
-                  clean = clean-step n chosen bad bad-chosen v (s .clean) (answer-is ∙ z) next to;
-                  seen = seen-step v stamps (s .seen) (s .come .is-chosen h) next to stamps′ (met .seen z);
-                  own =
-                      λ y u l i.
-                      ⊎-elim
-                      (λ (a : u ≤ v). own-next y u a i)
-                      (λ (b : v < u). absurd (clear i (not-held y u (to .before u (omega arith) l))))
-                      (le-or-lt u v);
-                }
+          pub shared-step : base ≤ class v → (next : ℕ) → Next chosen n (suc v) next → Shared next tokens′
+          shared-step l next to =
+              record {
+                come = come-to n chosen (suc v) next to;
+                clean = clean-step n chosen bad bad-chosen v (s .clean) (answer-is ∙ z) next to;
+                seen =
+                    seen-step v (taken base tokens) (s .seen) (s .come .is-chosen h) next to (taken base tokens′)
+                    (λ y. ap (leb base) (met .left z y) ∙ taken-by base (class v) l _ (getD tokens y 0));
+                own =
+                    λ y u k i.
+                    ⊎-elim
+                    (λ (a : u ≤ v). own-next y u a i)
+                    (λ (b : v < u). absurd (clear i (not-held y u (to .before u (omega arith) k))))
+                    (le-or-lt u v);
+              }
 
   -- the rows of a reference, what is known being fixed
   module _ (known : ℕ → Bool) where

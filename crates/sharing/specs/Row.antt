@@ -3,9 +3,10 @@ use mathlib.Core.Path.{_≡_}
 use mathlib.Core.Bool.{Bool, false, _&&_, _||_, not, cond}
 use mathlib.Core.List.{List}
 use Prim.Native.Nat.{ℕ, _≤_, _<_}
-use lib.Dec.{ltb, eqb}
+use lib.Dec.{leb, ltb, eqb}
 use lib.ListN.{length, getD}
 use Rattle.meaning.specs.Walk.{any}
+use Rattle.day.specs.Ready.{Stamps}
 use Rattle.day.specs.Row.{UpTo, stamped}
 
 -- the period of record i, begin to end, shares a day with the window from..to
@@ -16,9 +17,13 @@ during begins ends from to i = ltb (getD begins i 0) to && ltb from (getD ends i
 unfoldable pub someOf : ℕ → (ℕ → Bool) → (ℕ → Bool) → Bool
 someOf n row ask = any (λ f. row f && ask f) 0 n
 
--- a value is held by another: x is stamped t, and its owner is not of this class
-abbrev pub foreign : ℕ → List ℕ → List ℕ → ℕ → ℕ → Bool
-foreign t stamps owners class x = stamped t stamps x && not (eqb (getD owners x 0) class)
+-- x has a token of this window, whose tokens are `base` or more
+abbrev pub taken : ℕ → List ℕ → ℕ → Bool
+taken base tokens x = leb base (getD tokens x 0)
+
+-- a value is held by another: x has a token of this window, and it is not this one
+abbrev pub foreign : ℕ → List ℕ → ℕ → ℕ → Bool
+foreign base tokens mine x = taken base tokens x && not (eqb (getD tokens x 0) mine)
 
 -- a row of n records, those that p passes being present, each represented by a record
 module _ (p : ℕ → Bool) (n : ℕ) (rep : ℕ → ℕ) (row : ℕ → Bool) where
@@ -44,18 +49,16 @@ module _ (p : ℕ → Bool) (n : ℕ) (rep : ℕ → ℕ) (row : ℕ → Bool) w
     pub up-to : UpTo t stamps → UpTo t stamps′
 
   -- what a walk down the row did: the answer, and where that is no, what it left
-  pub record Claimed (needy : Bool) (t class : ℕ) (stamps owners stamps′ owners′ : List ℕ) (answer : Bool) : Type 0 where
-    pub answers : answer ≡ (lacking needy || asks (foreign t stamps owners class))
-    pub stamp-laid : answer ≡ false → Laid t stamps stamps′
-    pub owner-laid : answer ≡ false → Laid class owners owners′
-    pub up-to : UpTo t stamps → UpTo t stamps′
+  pub record Claimed (needy : Bool) (base mine : ℕ) (tokens tokens′ : List ℕ) (answer : Bool) : Type 0 where
+    pub answers : answer ≡ (lacking needy || asks (foreign base tokens mine))
+    pub left : answer ≡ false → Laid mine tokens tokens′
+    pub below : (m : ℕ) → mine < m → Stamps n m tokens → Stamps n m tokens′
 
-  -- what was done with the row of record v: the answer, and where that is no, the stamps and their owners
-  pub record Met (needy : Bool) (v t class : ℕ) (stamps owners stamps′ owners′ : List ℕ) (answer : Bool) : Type 0 where
-    pub answers : answer ≡ (p v && (lacking needy || asks (foreign t stamps owners class)))
-    pub seen : answer ≡ false → (y : ℕ) → stamped t stamps′ y ≡ (stamped t stamps y || (p v && shows y))
-    pub owned : answer ≡ false → (y : ℕ) → getD owners′ y 0 ≡ cond (p v && shows y) class (getD owners y 0)
-    pub up-to : UpTo t stamps → UpTo t stamps′
+  -- what was done with the row of record v: the answer, and where that is no, the tokens
+  pub record Met (needy : Bool) (v base mine : ℕ) (tokens tokens′ : List ℕ) (answer : Bool) : Type 0 where
+    pub answers : answer ≡ (p v && (lacking needy || asks (foreign base tokens mine)))
+    pub left : answer ≡ false → (y : ℕ) → getD tokens′ y 0 ≡ cond (p v && shows y) mine (getD tokens y 0)
+    pub below : (m : ℕ) → mine < m → Stamps n m tokens → Stamps n m tokens′
 
 -- n entries or more in each list, and representatives that are record numbers
 pub record Room (n : ℕ) (lower ends reps column : List ℕ) : Type 0 where

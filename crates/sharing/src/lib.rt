@@ -1,10 +1,11 @@
 // The lowest offender of one window, for a non-sequenced key, unique or reference rule.
+use document::LIMIT;
 use meaning::Found;
 use numbers::index;
 ghost use mathlib.Core.Path.{_≡_};
 ghost use mathlib.Core.Logic.{_⊎_};
 ghost use mathlib.Core.Bool.{true, false};
-ghost use Prim.Native.Nat.{ℕ, _+_, _<_, _≤_};
+ghost use Prim.Native.Nat.{ℕ, _+_, _*_, _<_, _≤_};
 ghost use lib.ListN.{length, getD};
 ghost use Rattle.meaning.specs.declared.Rule.{Rule};
 ghost use Rattle.meaning.specs.Walk.{any, first};
@@ -12,6 +13,7 @@ ghost use Rattle.meaning.specs.Document.{Doc};
 ghost use Rattle.meaning.specs.Rules.{isSequenced};
 ghost use Rattle.meaning.specs.Select.{selected};
 ghost use Rattle.meaning.specs.Window.{Window, meets, offendsIn};
+ghost use Rattle.document.specs.Columns.{limit};
 ghost use Rattle.prepare.specs.Rows.{inRow};
 ghost use Rattle.day.specs.Ready.{Ready, Referred, Stamps};
 ghost use Rattle.day.specs.Row.{UpTo, stamped};
@@ -21,8 +23,8 @@ ghost use Rattle.sharing.specs.Table.{holder, rowMisses};
 
 mod row; // row.rt: one row of a rule in a window
 
-// The lowest version that offends a key, which needs a value, or a unique rule in the window from..to; every stamp is below t before, and
-// at most t after. Cost: a look for each selected version, and one for each field version with a value of one that is present.
+// The lowest version that offends a key, which needs a value, or a unique rule in the window from..to, its number being t; a token of window t
+// is t * LIMIT and a class, and every token is of an earlier window before, and of this or an earlier one after. Cost: a look for each selected version, and one for each field version with a value of one that is present.
 pub fn shared_in(
     start: usize,
     next: &[u16],
@@ -36,13 +38,13 @@ pub fn shared_in(
     from: u16,
     to: u16,
     t: u16,
-    stamp: &mut [u16],
-    owner: &mut [u16],
+    seen: &mut [u32],
 ) -> Found
-    requires { ⌜ ((doc : Doc) × (r : Rule) × Ready doc r start (now next) (now last) (now lower) (now begin) (now end) (now rep) × Groups doc (now group) × Stamps (doc .size) t (now stamp) × (doc .size ≤ length (now owner))) ⌝ }
+    requires { ⌜ ((doc : Doc) × (r : Rule) × Ready doc r start (now next) (now last) (now lower) (now begin) (now end) (now rep) × Groups doc (now group) × (doc .size ≤ limit) × Stamps (doc .size) (t * limit) (now seen)) ⌝ }
     ensures answer { λ x. ⌜ ((doc : Doc) → (q r : Rule) → (w : Window) → Ready doc r start (now (next .entry)) (now (last .entry)) (now (lower .entry)) (now (begin .entry)) (now (end .entry)) (now (rep .entry)) → Groups doc (now (group .entry)) → isSequenced r ≡ false → w .from ≡ from → w .to ≡ to → (((r .kind ≡ 1) × (needy ≡ true)) ⊎ ((r .kind ≡ 2) × (needy ≡ false))) → x ≡ first (offendsIn doc (meets doc w) q r) 0 (doc .size)) ⌝ }
-    ensures stamps { λ x. ⌜ ((i : ℕ) → getD (now (stamp .exit)) i 0 < t + 1) ⌝ }
+    ensures tokens { λ x. ⌜ ((i : ℕ) → getD (now (seen .exit)) i 0 < (t + 1) * limit) ⌝ }
 {
+    let base = (t as u32) * (LIMIT as u32);
     let mut v = start;
     while v < begin.len() {
         if row::row_shares(
@@ -56,9 +58,8 @@ pub fn shared_in(
             from,
             to,
             v,
-            t,
-            stamp,
-            owner,
+            base,
+            seen,
         ) {
             return Found::At(v);
         }

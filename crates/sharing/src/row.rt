@@ -2,8 +2,9 @@
 use numbers::index;
 ghost use mathlib.Core.Path.{_≡_};
 ghost use mathlib.Core.Bool.{Bool, _&&_, not};
-ghost use Prim.Native.Nat.{ℕ, _<_, _≤_};
+ghost use Prim.Native.Nat.{ℕ, _+_, _*_, _<_, _≤_};
 ghost use lib.ListN.{length, getD};
+ghost use Rattle.document.specs.Columns.{limit};
 ghost use Rattle.day.specs.Row.{Chain, Fits, stamped};
 ghost use Rattle.sharing.specs.Row.{during, asks, Laid, Claimed, Marked, Met, Room};
 
@@ -68,8 +69,8 @@ fn lay(
     }
 }
 
-// Whether the row that ends one below `past` has a value that another class than `class` holds, or none where one is needed; where not, its
-// values are stamped t and `class` owns them. Cost: at most a look for each of the row.
+// Whether the row that ends one below `past` has a value with a token of this window, `base` or more, that is not `mine`, or none where one is
+// needed; where not, its values have the token `mine`. Cost: at most a look for each of the row.
 fn claim(
     begin: &[u16],
     end: &[u16],
@@ -79,25 +80,24 @@ fn claim(
     from: u16,
     to: u16,
     past: usize,
-    t: u16,
-    class: u16,
-    stamp: &mut [u16],
-    owner: &mut [u16],
+    base: u32,
+    mine: u32,
+    seen: &mut [u32],
 ) -> bool
-    requires rooms { ⌜ Room (length (now begin)) (now lower) (now end) (now rep) (now stamp) × (length (now begin) ≤ length (now owner)) ⌝ }
+    requires rooms { ⌜ Room (length (now begin)) (now lower) (now end) (now rep) (now seen) ⌝ }
     requires chain { ⌜ ((row : ℕ → Bool) × Chain row (length (now begin)) past (now lower)) ⌝ }
-    ensures { λ r. ⌜ ((row : ℕ → Bool) → Chain row (length (now (begin .entry))) past (now (lower .entry)) → Claimed (during (now (begin .entry)) (now (end .entry)) from to) (length (now (begin .entry))) (λ f. getD (now (rep .entry)) f 0) row needy t class (now (stamp .entry)) (now (owner .entry)) (now (stamp .exit)) (now (owner .exit)) r) ⌝ }
+    ensures { λ r. ⌜ ((row : ℕ → Bool) → Chain row (length (now (begin .entry))) past (now (lower .entry)) → Claimed (during (now (begin .entry)) (now (end .entry)) from to) (length (now (begin .entry))) (λ f. getD (now (rep .entry)) f 0) row needy base mine (now (seen .entry)) (now (seen .exit)) r) ⌝ }
 {
     let mut at = past;
     let mut bare = needy;
     while 0 < at {
         if present(begin, end, from, to, at - 1) {
             let x = index(rep[at - 1]);
-            if (stamp[x] == t) & (owner[x] != class) {
+            let held = seen[x];
+            if (base <= held) & (held != mine) {
                 return true;
             }
-            stamp[x] = t;
-            owner[x] = class;
+            seen[x] = mine;
             bare = false;
         }
         at = index(lower[at - 1]);
@@ -150,8 +150,16 @@ pub fn row_misses(
     has_unstamped(begin, end, lower, rep, from, to, index(last[v]), t, stamp)
 }
 
-// Whether the row of version v lacks a value or has one of another class; where not, its values are stamped and its class owns them.
-// Cost: a look for each of the row, none where v is not present.
+// The token of a class in the window whose first token is `base`. One operation.
+fn token(base: u32, class: u16) -> u32
+    requires { ⌜ base ≤ 65535 * limit ⌝ }
+    ensures { λ r. ⌜ r ≡ base + class ⌝ }
+{
+    base + (class as u32)
+}
+
+// Whether the row of version v lacks a value or has one with a token of another class, those of the window being `base` or more; where not, its
+// values have the token of its class. Cost: a look for each of the row, none where v is not present.
 pub fn row_shares(
     last: &[u16],
     lower: &[u16],
@@ -163,17 +171,18 @@ pub fn row_shares(
     from: u16,
     to: u16,
     v: usize,
-    t: u16,
-    stamp: &mut [u16],
-    owner: &mut [u16],
+    base: u32,
+    seen: &mut [u32],
 ) -> bool
-    requires rooms { ⌜ (v < length (now begin)) × Fits (length (now begin)) (now last) (now lower) (now end) (now rep) (now stamp) × (length (now begin) ≤ length (now group)) × (length (now begin) ≤ length (now owner)) ⌝ }
+    requires rooms { ⌜ (v < length (now begin)) × Fits (length (now begin)) (now last) (now lower) (now end) (now rep) (now seen) × (length (now begin) ≤ length (now group)) × (base ≤ 65535 * limit) ⌝ }
     requires chain { ⌜ ((row : ℕ → Bool) × Chain row (length (now begin)) (getD (now last) v 0) (now lower)) ⌝ }
-    ensures { λ r. ⌜ ((row : ℕ → Bool) → Chain row (length (now (begin .entry))) (getD (now (last .entry)) v 0) (now (lower .entry)) → Met (during (now (begin .entry)) (now (end .entry)) from to) (length (now (begin .entry))) (λ f. getD (now (rep .entry)) f 0) row needy v t (getD (now (group .entry)) v 0) (now (stamp .entry)) (now (owner .entry)) (now (stamp .exit)) (now (owner .exit)) r) ⌝ }
+    ensures { λ r. ⌜ ((row : ℕ → Bool) → Chain row (length (now (begin .entry))) (getD (now (last .entry)) v 0) (now (lower .entry)) → Met (during (now (begin .entry)) (now (end .entry)) from to) (length (now (begin .entry))) (λ f. getD (now (rep .entry)) f 0) row needy v base (base + getD (now (group .entry)) v 0) (now (seen .entry)) (now (seen .exit)) r) ⌝ }
 {
     if !present(begin, end, from, to, v) {
         return false;
     }
+    let past = index(last[v]);
+    let mine = token(base, group[v]);
     claim(
         begin,
         end,
@@ -182,10 +191,9 @@ pub fn row_shares(
         needy,
         from,
         to,
-        index(last[v]),
-        t,
-        group[v],
-        stamp,
-        owner,
+        past,
+        base,
+        mine,
+        seen,
     )
 }

@@ -3,7 +3,7 @@ use meaning::Found;
 ghost use mathlib.Core.Path.{_≡_};
 ghost use mathlib.Core.Bool.{Bool};
 ghost use Prim.Native.Nat.{ℕ, _+_, _*_, _<_, _≤_};
-ghost use lib.ListN.{length, getD};
+ghost use lib.ListN.{getD};
 ghost use Rattle.meaning.specs.declared.Rule.{Rule};
 ghost use Rattle.meaning.specs.Document.{Doc};
 ghost use Rattle.meaning.specs.Window.{Window, offenderIn};
@@ -14,7 +14,7 @@ ghost use Rattle.window.specs.Laid.{Laid};
 pub mod layout; // layout.rt: the lists of a rule
 
 // The lowest offender of the window that begins on day `from` and ends before day `to`, its number being t, for a rule that is no cardinality;
-// every stamp is below t before, and at most t after. Cost: that of the one walk that the rule's kind asks for.
+// every stamp and every token is one of an earlier window before, and of this or an earlier one after. Cost: that of the one walk that the rule's kind asks for.
 fn uncounted_in(
     kind: u8,
     start: usize,
@@ -33,11 +33,12 @@ fn uncounted_in(
     to: u16,
     t: u16,
     stamp: &mut [u16],
-    owner: &mut [u16],
+    seen: &mut [u32],
 ) -> Found
-    requires { ⌜ (kind ≡ 4 → ⊥) × ((doc : Doc) × (q : Rule) × (r : Rule) × (distinct : Bool) × (low : ℕ) × (high : ℕ) × Laid doc q r start (now next) (now last) (now lower) «held_start» (now «held_next») (now «held_last») (now «held_lower») (now begin) (now end) (now rep) (now group) distinct low high × (kind ≡ r .kind) × Stamps (doc .size) t (now stamp) × (doc .size ≤ length (now owner))) ⌝ }
+    requires { ⌜ (kind ≡ 4 → ⊥) × ((doc : Doc) × (q : Rule) × (r : Rule) × (distinct : Bool) × (low : ℕ) × (high : ℕ) × Laid doc q r start (now next) (now last) (now lower) «held_start» (now «held_next») (now «held_last») (now «held_lower») (now begin) (now end) (now rep) (now group) distinct low high × (kind ≡ r .kind) × Stamps (doc .size) t (now stamp) × Stamps (doc .size) (t * limit) (now seen)) ⌝ }
     ensures answer { λ x. ⌜ ((doc : Doc) → (q r : Rule) → (w : Window) → (distinct : Bool) → (low high : ℕ) → Laid doc q r start (now (next .entry)) (now (last .entry)) (now (lower .entry)) «held_start» (now («held_next» .entry)) (now («held_last» .entry)) (now («held_lower» .entry)) (now (begin .entry)) (now (end .entry)) (now (rep .entry)) (now (group .entry)) distinct low high → kind ≡ r .kind → w .from ≡ from → w .to ≡ to → from ≤ 36524 → x ≡ offenderIn doc q r w) ⌝ }
     ensures stamps { λ x. ⌜ ((i : ℕ) → getD (now (stamp .exit)) i 0 < t + 1) ⌝ }
+    ensures tokens { λ x. ⌜ ((i : ℕ) → getD (now (seen .exit)) i 0 < (t + 1) * limit) ⌝ }
 {
     if kind == 5 {
         return steps::stepped_in(start, next, begin, end, last, from, to);
@@ -74,8 +75,7 @@ fn uncounted_in(
         from,
         to,
         t,
-        stamp,
-        owner,
+        seen,
     )
 }
 
@@ -102,10 +102,9 @@ pub fn offender_in(
     to: u16,
     t: u16,
     stamp: &mut [u16],
-    owner: &mut [u16],
     seen: &mut [u32],
 ) -> Found
-    requires { ⌜ ((doc : Doc) × (q : Rule) × (r : Rule) × Laid doc q r start (now next) (now last) (now lower) «held_start» (now «held_next») (now «held_last») (now «held_lower») (now begin) (now end) (now rep) (now group) distinct low high × (kind ≡ r .kind) × Stamps (doc .size) t (now stamp) × (doc .size ≤ length (now owner)) × Stamps (doc .size) (t * limit) (now seen)) ⌝ }
+    requires { ⌜ ((doc : Doc) × (q : Rule) × (r : Rule) × Laid doc q r start (now next) (now last) (now lower) «held_start» (now «held_next») (now «held_last») (now «held_lower») (now begin) (now end) (now rep) (now group) distinct low high × (kind ≡ r .kind) × Stamps (doc .size) t (now stamp) × Stamps (doc .size) (t * limit) (now seen)) ⌝ }
     ensures answer { λ x. ⌜ ((doc : Doc) → (q r : Rule) → (w : Window) → Laid doc q r start (now (next .entry)) (now (last .entry)) (now (lower .entry)) «held_start» (now («held_next» .entry)) (now («held_last» .entry)) (now («held_lower» .entry)) (now (begin .entry)) (now (end .entry)) (now (rep .entry)) (now (group .entry)) distinct low high → kind ≡ r .kind → w .from ≡ from → w .to ≡ to → from ≤ 36524 → x ≡ offenderIn doc q r w) ⌝ }
     ensures stamps { λ x. ⌜ ((i : ℕ) → getD (now (stamp .exit)) i 0 < t + 1) ⌝ }
     ensures tokens { λ x. ⌜ ((i : ℕ) → getD (now (seen .exit)) i 0 < (t + 1) * limit) ⌝ }
@@ -148,6 +147,6 @@ pub fn offender_in(
         to,
         t,
         stamp,
-        owner,
+        seen,
     )
 }

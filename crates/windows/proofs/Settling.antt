@@ -18,11 +18,11 @@ use Rattle.window.proofs.Laying.{laid}
 use Rattle.windows.specs.Walkable.{Lookable}
 use Rattle.windows.specs.Settled.{Settled}
 
--- fresh stamps, owners and tokens, one of each for every record
+-- a fresh stamp and a fresh token for every record
 pub lookable : {doc : Doc} {q r : Rule} {kind start : ℕ} {next last lower : List ℕ} {held-start : ℕ} {held-next held-last held-lower begins ends reps groups : List ℕ}
     {distinct : Bool} {low high : ℕ}
     → Laid doc q r start next last lower held-start held-next held-last held-lower begins ends reps groups distinct low high → kind ≡ r .kind
-    → Lookable kind start next last lower held-start held-next held-last held-lower begins ends reps groups distinct low high 1 (replicate 1000 0) (replicate 1000 0) (replicate 1000 0)
+    → Lookable kind start next last lower held-start held-next held-last held-lower begins ends reps groups distinct low high 1 (replicate 1000 0) (replicate 1000 0)
 lookable {doc} {q} {r} l k =
     let n = length-replicate {A = ℕ} 1000 0 in
     record {
@@ -32,7 +32,6 @@ lookable {doc} {q} {r} l k =
       laid = l;
       same-kind = k;
       stamped = record { room = omega (arith, l .checked .few, n); low = λ x. omega (arith, day-zeros 1000 x) };
-      owned = omega (arith, l .checked .few, n);
       seen = record { room = omega (arith, l .checked .few, n); low = λ x. omega (arith, day-zeros 1000 x) };
     }
 

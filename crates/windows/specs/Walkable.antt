@@ -42,14 +42,13 @@ pub record Alike (monthly : Bool) (k span slide close : ℕ) (days : List ℕ) (
 
 -- lists laid for a rule of the kind, with a stamp and a token for each record, all of windows before number t
 pub record Lookable (kind start : ℕ) (next last lower : List ℕ) (held-start : ℕ) (held-next held-last held-lower begins ends reps groups : List ℕ)
-    (distinct : Bool) (low high t : ℕ) (stamps owners tokens : List ℕ) : Type 0 where
+    (distinct : Bool) (low high t : ℕ) (stamps tokens : List ℕ) : Type 0 where
   pub doc : Doc
   pub other : Rule
   pub rule : Rule
   pub laid : Laid doc other rule start next last lower held-start held-next held-last held-lower begins ends reps groups distinct low high
   pub same-kind : kind ≡ rule .kind
   pub stamped : Stamps (doc .size) t stamps
-  pub owned : doc .size ≤ length owners
   pub seen : Stamps (doc .size) (t * limit) tokens
 
 -- windows that go on, within the days that have a mark

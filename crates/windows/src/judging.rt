@@ -19,7 +19,7 @@ ghost use Rattle.windows.specs.Placing.{Placed};
 ghost use Rattle.windows.specs.Walkable.{Going};
 ghost use Rattle.windows.specs.Settled.{Settled};
 
-// The walk over the windows, with stamps, owners and tokens of its own. Cost: the walk.
+// The walk over the windows, with stamps and tokens of its own. Cost: the walk.
 fn walk_clear(
     table: &[u16; 1201],
     at: Places,
@@ -46,7 +46,6 @@ fn walk_clear(
     let held_last = held.last;
     let held_lower = held.lower;
     let mut stamp = [0u16; LIMIT];
-    let mut owner = [0u16; LIMIT];
     let mut seen = [0u32; LIMIT];
     crate::walk(
         table,
@@ -73,7 +72,6 @@ fn walk_clear(
         low,
         high,
         &mut stamp,
-        &mut owner,
         &mut seen,
     )
 }

@@ -50,10 +50,9 @@ pub fn walk(
     low: usize,
     high: usize,
     stamp: &mut [u16],
-    owner: &mut [u16],
     seen: &mut [u32],
 ) -> Verdict
-    requires { ⌜ MonthTable (now table) × Going place span slide close (now days) × Lookable kind start (now next) (now last) (now lower) «held_start» (now «held_next») (now «held_last») (now «held_lower») (now begin) (now end) (now rep) (now group) distinct low high 1 (now stamp) (now owner) (now seen) ⌝ }
+    requires { ⌜ MonthTable (now table) × Going place span slide close (now days) × Lookable kind start (now next) (now last) (now lower) «held_start» (now «held_next») (now «held_last») (now «held_lower») (now begin) (now end) (now rep) (now group) distinct low high 1 (now stamp) (now seen) ⌝ }
     ensures { λ x. ⌜ ((doc : Doc) → (q r : Rule) → Laid doc q r start (now (next .entry)) (now (last .entry)) (now (lower .entry)) «held_start» (now («held_next» .entry)) (now («held_last» .entry)) (now («held_lower» .entry)) (now (begin .entry)) (now (end .entry)) (now (rep .entry)) (now (group .entry)) distinct low high → kind ≡ r .kind → Marks (isChange doc q r) 36526 (now (days .entry)) → ruleFields r ≡ true → Placed r monthly place span slide → close ≡ r .end → x ≡ inWindows doc q r) ⌝ }
 {
     let mut looked: usize = 0;
@@ -82,7 +81,6 @@ pub fn walk(
             here.to as u16,
             number as u16,
             stamp,
-            owner,
             seen,
         );
         if let Found::At(v) = found {

@@ -1,7 +1,7 @@
--- `window::uncounted_in` meets its contract: the walk of the rule's kind answers, and stamps that it does not touch stay those of earlier windows.
+-- `window::uncounted_in` meets its contract: the walk of the rule's kind answers, and stamps and tokens that it does not touch stay those of earlier windows.
 use mathlib.Core.Path.{sym, _∙_}
 use borrow.Author.Needs.{needs}
-use Rattle.window.proofs.Parting.{answer, older, way, rooms, early, needy}
+use Rattle.window.proofs.Parting.{answer, older, older-token, way, rooms, early, needy}
 use Rattle.window.proofs.uncounted_in.Statement.{statement}
 use Rattle.window.proofs.uncounted_in.Tie as tie
 
@@ -18,7 +18,7 @@ returns c =
       λ doc q r w distinct low high l e from to few.
           let s = sym e ∙ k in
           answer doc q r w (c .stepped-in .ensures doc q r w (l .periods) (l .stepping s .1) (l .checked) (l .windowed) s from to few),
-      λ i. older (p .8 .low i),
+      (λ i. older (p .8 .low i), λ i. older-token _ (p .9 .low i)),
     )
 
 missing-in-requires : tie.Need-missing-in-requires
@@ -32,34 +32,32 @@ same-length c = search needs
 
 returns-2 : tie.Need-returns-2
 returns-2 c =
+    let p = c .before .before .before .before .before .before .before .before .before .before .before .before .before .before .before .before .before .before .pre .1 in
     let k = c .before .before .before .before .if2 .taken in
     let g = c .before .before .missing-in .ensures in (
       λ doc q r w distinct low high l e from to few. let s = l .missing (sym e ∙ k) in answer doc q r w (g .0 doc q r w (s .0) (s .1) (l .windowed) (sym e ∙ k) from to),
-      g .1,
+      (g .1, λ i. older-token _ (p .9 .low i)),
     )
 
 shared-in-requires : tie.Need-shared-in-requires
 shared-in-requires c κs =
-    let b = c .before .before in
-    let p = c .before .before .before .before .before .before .before .before .before .before .before .before .before .before .before .before .pre in
+    let b = c .before in
+    let p = c .before .before .before .before .before .before .before .before .before .before .before .before .before .before .before .pre in
     let s = p .1 .6 .sharing (early (p .1 .6) (p .1 .7) (b .if2 .left) (p .0) (b .before .if1 .left)) in
-    (p .1 .0, p .1 .2, s .0, s .1, p .1 .8, p .1 .9)
+    (p .1 .0, p .1 .2, s .0, s .1, p .1 .6 .checked .few, p .1 .9)
 
 same-length-2 : tie.Need-same-length-2
 same-length-2 c = search needs
 
-same-length-3 : tie.Need-same-length-3
-same-length-3 c = search needs
-
 returns-3 : tie.Need-returns-3
 returns-3 c =
-    let b = c .before .before .before .before .before .before .before in
-    let p = c .before .before .before .before .before .before .before .before .before .before .before .before .before .before .before .before .before .before .before .before .before .pre in
-    let g = c .before .before .before .before .shared-in .ensures in (
+    let b = c .before .before .before .before in
+    let p = c .before .before .before .before .before .before .before .before .before .before .before .before .before .before .before .before .before .before .pre in
+    let g = c .before .before .shared-in .ensures in (
       λ doc q r w distinct low high l e from to few.
           let s = l .sharing (early l e (b .if2 .left) (p .0) (b .before .if1 .left)) in
           answer doc q r w (g .0 doc q r w (s .0) (s .1) (l .windowed) from to (needy l e (b .if2 .left) (p .0) (b .before .if1 .left))),
-      g .1,
+      (λ i. older (p .1 .8 .low i), g .1),
     )
 
 pub uncounted-in-spec : {M : Type 1} → statement M
@@ -73,5 +71,4 @@ uncounted-in-spec =
     returns-2
     shared-in-requires
     same-length-2
-    same-length-3
     returns-3)

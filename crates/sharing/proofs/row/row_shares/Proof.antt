@@ -11,7 +11,7 @@ present-requires : tie.Need-present-requires
 present-requires c κs = search needs
 
 returns : tie.Need-returns
-returns c = λ row ch. met-absent _ _ _ row _ _ _ _ _ _ (sym (c .before .present .ensures) ∙ not-true _ (c .if1 .taken))
+returns c = λ row ch. met-absent _ _ _ row _ _ _ _ _ (sym (c .before .present .ensures) ∙ not-true _ (c .if1 .taken))
 
 mul-index : tie.Need-mul-index
 mul-index c = search needs
@@ -22,27 +22,27 @@ shared-slice-read-index c = search needs
 index-requires : tie.Need-index-requires
 index-requires c κs = search needs
 
-mul-claim : tie.Need-mul-claim
-mul-claim c = search needs
+mul-token : tie.Need-mul-token
+mul-token c = search needs
 
-shared-slice-read-claim : tie.Need-shared-slice-read-claim
-shared-slice-read-claim c = search needs
+shared-slice-read-token : tie.Need-shared-slice-read-token
+shared-slice-read-token c = search needs
+
+token-requires : tie.Need-token-requires
+token-requires c κs = search needs
 
 claim-requires : tie.Need-claim-requires
 claim-requires c κs =
-    let a = c .before .before .before .before .before .before .before .before .before .before .before .before .before .before .before in
-    ((room-of _ _ _ _ _ _ (a .pre .0 .1) _ (a .pre .0 .1 .stamp-room), a .pre .0 .3), (a .pre .1 .0, chain-from _ _ _ _ _ (c .before .before .before .index .ensures) (a .pre .1 .1)))
+    let a = c .before .before .before .before .before .before .before .before .before .before .before .before .before .before in
+    (room-of _ _ _ _ _ _ (a .pre .0 .1) _ (a .pre .0 .1 .stamp-room), (a .pre .1 .0, chain-from _ _ _ _ _ (c .before .before .before .index .ensures) (a .pre .1 .1)))
 
 same-length : tie.Need-same-length
 same-length c = search needs
 
-same-length-2 : tie.Need-same-length-2
-same-length-2 c = search needs
-
 returns-2 : tie.Need-returns-2
 returns-2 c =
-    let here = sym (c .before .before .before .before .before .before .before .before .before .before .before .present .ensures) ∙ not-false _ (c .before .before .before .before .before .before .before .before .before .before .if1 .left) in
-    λ row ch. met-claimed _ _ _ row _ _ _ _ _ _ here _ _ _ (c .before .before .before .before .claim .ensures row (chain-from _ _ _ _ _ (c .before .before .before .before .before .before .before .before .index .ensures) ch))
+    let here = sym (c .before .before .before .before .before .before .before .before .before .present .ensures) ∙ not-false _ (c .before .before .before .before .before .before .before .before .if1 .left) in
+    λ row ch. met-claimed _ _ _ row _ _ _ _ _ here _ (c .before .before .before .before .token .ensures) _ _ (c .before .before .claim .ensures row (chain-from _ _ _ _ _ (c .before .before .before .before .before .before .index .ensures) ch))
 
 pub row-shares-spec : {M : Type 1} → statement M
 row-shares-spec =
@@ -53,9 +53,9 @@ row-shares-spec =
     mul-index
     shared-slice-read-index
     index-requires
-    mul-claim
-    shared-slice-read-claim
+    mul-token
+    shared-slice-read-token
+    token-requires
     claim-requires
     same-length
-    same-length-2
     returns-2)

@@ -1,4 +1,4 @@
--- `windows::judging::walk_clear` meets its contract: fresh stamps, owners and tokens are those of no window.
+-- `windows::judging::walk_clear` meets its contract: fresh stamps and tokens are those of no window.
 use borrow.Author.Needs.{needs}
 use Rattle.windows.proofs.Settling.{lookable}
 use Rattle.windows.proofs.judging.walk_clear.Statement.{statement}
@@ -28,16 +28,13 @@ slice-aggregate-walk-7 c = search needs
 slice-aggregate-walk-8 : tie.Need-slice-aggregate-walk-8
 slice-aggregate-walk-8 c = search needs
 
-slice-aggregate-walk-9 : tie.Need-slice-aggregate-walk-9
-slice-aggregate-walk-9 c = search needs
-
 walk-requires : tie.Need-walk-requires
 walk-requires c κs =
-    let p = c .before .before .before .before .before .before .before .before .before .before .before .before .before .before .before .before .before .before .before .before .pre in
+    let p = c .before .before .before .before .before .before .before .before .before .before .before .before .before .before .before .before .before .before .before .pre in
     (p .0, p .1, lookable (p .2 .3) (p .2 .4))
 
 returns : tie.Need-returns
-returns c = c .before .before .before .walk .ensures
+returns c = c .before .before .walk .ensures
 
 pub walk-clear-spec : {M : Type 1} → statement M
 walk-clear-spec =
@@ -51,6 +48,5 @@ walk-clear-spec =
     slice-aggregate-walk-6
     slice-aggregate-walk-7
     slice-aggregate-walk-8
-    slice-aggregate-walk-9
     walk-requires
     returns)
