@@ -1,17 +1,18 @@
 -- A walk down the chain of a row that gives its values a token: what it has left in the column, and what the answer still hangs on.
-use mathlib.Core.Path.{_≡_, refl, sym, _∙_}
+use mathlib.Core.Path.{_≡_, refl, sym, ap, _∙_}
 use mathlib.Core.Logic.{⊎-elim}
 use mathlib.Core.Bool.{Bool, true, false, _&&_, _||_, not, and-false, or-false}
 use mathlib.Core.List.{List}
-use Prim.Native.Nat.{ℕ, _-_, _≤_, _<_}
+use Prim.Native.Nat.{ℕ, _+_, _-_, _≤_, _<_}
+use native.Mathlib.Omega.{arith}
 use lib.Dec.{leb, eqb}
 use lib.ListN.{length, getD, set, length-set}
 use lib.Seq.{getD-set-same, getD-set-other}
 use borrow.Author.Tests.{eqb-true, eqb-false, eq-eqb}
-use Rattle.meaning.proofs.Basics.{went, clear, both, or-r}
+use Rattle.meaning.proofs.Basics.{went, clear, both, and-l, and-r, or-r}
 use Rattle.day.specs.Ready.{Stamps}
 use Rattle.day.specs.Row.{Chain}
-use Rattle.sharing.specs.Row.{someOf, foreign, asks, lacking, Claimed}
+use Rattle.sharing.specs.Row.{someOf, foreign, asks, lacking, Took, Claimed, Room}
 use Rattle.sharing.proofs.Descent.{Down, Steps, none-left, all-left, stepped, one-there, down-start, down-next}
 use Rattle.sharing.proofs.Laying.{Layed, layed-start, layed-end, layed-skip, layed-set}
 
@@ -38,6 +39,20 @@ module _ (mine : ℕ) (tokens : List ℕ) (k : ℕ) (room : k < length tokens) w
             (λ i. rw (getD-set-other tokens k y mine 0 (λ q. eqb-false k y i (sym q))) (s .low y))
             (went (eqb k y));
       }
+
+-- the record below `at` has a representative, which has an entry in the column
+pub value-room : (n : ℕ) (lower ends reps column : List ℕ) → Room n lower ends reps column → (at : ℕ) → at ≤ n → 0 < at → {m : ℕ} → m ≡ length column
+    → (at - 1 < length reps) × (getD reps (at - 1) 0 < m)
+value-room n lower ends reps column room at l h e =
+    (omega (arith, room .rep-room), omega (arith, room .rep-low (at - 1) (omega arith), room .column-room, e))
+
+-- one value, represented by x, which the code has as k
+module _ (base mine : ℕ) (tokens : List ℕ) {k x : ℕ} (i : k ≡ x) where
+  pub took-none : foreign base tokens mine k ≡ true → Took base mine x tokens tokens true
+  took-none e = record { answers = rw i at (sym e); kept = λ _. refl; put = λ z. absurd (clear refl z) }
+
+  pub took-it : foreign base tokens mine k ≡ false → {tokens′ : List ℕ} → tokens′ ≡ set tokens k mine → Took base mine x tokens tokens′ false
+  took-it e w = record { answers = rw i at (sym e); kept = λ z. absurd (clear z refl); put = λ _. rw i at w }
 
 -- the answer with one record apart, and with none left: m asks for a value, a is whether one is there, b whether one is held by another
 last-one : (m : Bool) → m ≡ ((m && true) || false)
@@ -143,3 +158,27 @@ module _ (p : ℕ → Bool) (n : ℕ) (rep : ℕ → ℕ) (needy : Bool) (base m
               left = λ row ch. take-one bare (someOf next row p) (someOf next row held) ∙ rw (down row ch p, down row ch held, y, held-there h k i false z) at (s .2 .left row ch);
             }),
       )
+
+  -- a row of one record, which is present: what was done with its value
+  pub claimed-one : (row : ℕ → Bool) → Chain row n past lower → (v : ℕ) → (eqb past (v + 1) && eqb (getD lower v 0) 0) ≡ true → p v ≡ true → rep v < length tokens
+      → (tokens′ : List ℕ) (r : Bool) → Took base mine (rep v) tokens tokens′ r → Claimed p n rep row needy base mine tokens tokens′ r
+  claimed-one row ch v alone y room tokens′ r t = go r refl
+    where
+      e : past ≡ v + 1
+      e = eqb-true past (v + 1) (and-l (eqb past (v + 1)) (eqb (getD lower v 0) 0) alone)
+
+      l : getD lower v 0 ≡ 0
+      l = eqb-true (getD lower v 0) 0 (and-r (eqb past (v + 1)) (eqb (getD lower v 0) 0) alone)
+
+      v-is : v ≡ past - 1
+      v-is = omega (arith, e)
+
+      go : (b : Bool) → r ≡ b → Claimed p n rep row needy base mine tokens tokens′ r
+      go true c =
+          rw (c, t .kept c)
+          (claiming-hit past needy tokens (claiming-start (row, ch)) (omega (arith, e)) (rep v) (ap rep v-is) (rw (sym v-is) y) (sym (t .answers) ∙ c) row ch)
+      go false c =
+          rw c
+          (claiming-end 0 false tokens′
+          (claiming-take past needy tokens (claiming-start (row, ch)) (row, ch) (omega (arith, e)) 0 (rw (sym v-is) (sym l)) false tokens′ (rw (sym v-is) y) (rep v) (ap rep v-is) (sym (t .answers) ∙ c) room (t .put c) refl)
+          (omega arith) row ch)

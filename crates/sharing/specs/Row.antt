@@ -1,10 +1,10 @@
 -- One row in a window: which of its records are present, what is asked of their representatives, and what the row leaves in the columns.
 use mathlib.Core.Path.{_≡_}
-use mathlib.Core.Bool.{Bool, false, _&&_, _||_, not, cond}
+use mathlib.Core.Bool.{Bool, true, false, _&&_, _||_, not, cond}
 use mathlib.Core.List.{List}
 use Prim.Native.Nat.{ℕ, _≤_, _<_}
 use lib.Dec.{leb, ltb, eqb}
-use lib.ListN.{length, getD}
+use lib.ListN.{length, getD, set}
 use Rattle.meaning.specs.Walk.{any}
 use Rattle.day.specs.Ready.{Stamps}
 use Rattle.day.specs.Row.{UpTo, stamped}
@@ -24,6 +24,12 @@ taken base tokens x = leb base (getD tokens x 0)
 -- a value is held by another: x has a token of this window, and it is not this one
 abbrev pub foreign : ℕ → List ℕ → ℕ → ℕ → Bool
 foreign base tokens mine x = taken base tokens x && not (eqb (getD tokens x 0) mine)
+
+-- what was done with one value: the answer is whether another holds it; where not, it has this token
+pub record Took (base mine x : ℕ) (tokens tokens′ : List ℕ) (answer : Bool) : Type 0 where
+  pub answers : answer ≡ foreign base tokens mine x
+  pub kept : answer ≡ true → tokens′ ≡ tokens
+  pub put : answer ≡ false → tokens′ ≡ set tokens x mine
 
 -- a row of n records, those that p passes being present, each represented by a record
 module _ (p : ℕ → Bool) (n : ℕ) (rep : ℕ → ℕ) (row : ℕ → Bool) where

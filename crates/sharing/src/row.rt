@@ -6,7 +6,7 @@ ghost use Prim.Native.Nat.{ℕ, _+_, _*_, _<_, _≤_};
 ghost use lib.ListN.{length, getD};
 ghost use Rattle.document.specs.Columns.{limit};
 ghost use Rattle.day.specs.Row.{Chain, Fits, stamped};
-ghost use Rattle.sharing.specs.Row.{during, asks, Laid, Claimed, Marked, Met, Room};
+ghost use Rattle.sharing.specs.Row.{during, asks, Laid, Took, Claimed, Marked, Met, Room};
 
 // Whether version i shares a day with the window. Two looks.
 fn present(begin: &[u16], end: &[u16], from: u16, to: u16, i: usize) -> bool
@@ -69,6 +69,21 @@ fn lay(
     }
 }
 
+// Whether record f has a value with a token of this window, `base` or more, that is not `mine`; where not, its value has the token `mine`.
+// Two looks.
+fn take_value(rep: &[u16], f: usize, base: u32, mine: u32, seen: &mut [u32]) -> bool
+    requires { ⌜ (f < length (now rep)) × (getD (now rep) f 0 < length (now seen)) ⌝ }
+    ensures { λ r. ⌜ Took base mine (getD (now (rep .entry)) f 0) (now (seen .entry)) (now (seen .exit)) r ⌝ }
+{
+    let x = index(rep[f]);
+    let held = seen[x];
+    if (base <= held) & (held != mine) {
+        return true;
+    }
+    seen[x] = mine;
+    false
+}
+
 // Whether the row that ends one below `past` has a value with a token of this window, `base` or more, that is not `mine`, or none where one is
 // needed; where not, its values have the token `mine`. Cost: at most a look for each of the row.
 fn claim(
@@ -92,12 +107,9 @@ fn claim(
     let mut bare = needy;
     while 0 < at {
         if present(begin, end, from, to, at - 1) {
-            let x = index(rep[at - 1]);
-            let held = seen[x];
-            if (base <= held) & (held != mine) {
+            if take_value(rep, at - 1, base, mine, seen) {
                 return true;
             }
-            seen[x] = mine;
             bare = false;
         }
         at = index(lower[at - 1]);
@@ -159,7 +171,8 @@ fn token(base: u32, class: u16) -> u32
 }
 
 // Whether the row of version v lacks a value or has one with a token of another class, those of the window being `base` or more; where not, its
-// values have the token of its class. Cost: a look for each of the row, none where v is not present.
+// values have the token of its class. A version that is its own only field version needs no walk. Cost: a look for each of the row, none
+// where v is not present.
 pub fn row_shares(
     last: &[u16],
     lower: &[u16],
@@ -183,6 +196,9 @@ pub fn row_shares(
     }
     let past = index(last[v]);
     let mine = token(base, group[v]);
+    if (past == v + 1) & (lower[v] == 0) {
+        return take_value(rep, v, base, mine, seen);
+    }
     claim(
         begin,
         end,
