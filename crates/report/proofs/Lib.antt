@@ -1,2 +1,3 @@
 -- The laws behind the report.
 pub mod Asking
+pub mod Texts

@@ -1,77 +1,74 @@
-// The report on two images: a header and a line for each rule, or one line that says why there is none. What a line says of a rule is
-// proved to be the verdict on it; how the line is spelled and written is tested.
+// The text of a report on two images, in a lent buffer: a header and a line for each rule, or one line that says why there is none.
 use meaning::Reading;
 use meaning::Verdict;
 use nodes::Columns;
 use nodes::Loaded;
 ghost use mathlib.Core.Path.{_≡_};
-ghost use mathlib.Core.List.{List};
-ghost use Prim.Native.Nat.{ℕ};
-ghost use Rattle.meaning.specs.declared.Verdict.the-variants.{Refused};
+ghost use lib.ListN.{length};
 ghost use Rattle.meaning.specs.declared.Reading.the-variants.{Accepted};
-ghost use Rattle.meaning.specs.Rules.{readRules};
+ghost use Rattle.meaning.specs.Rules.{rulesOf, readRules};
 ghost use Rattle.meaning.specs.Answer.{verdict};
 ghost use Rattle.nodes.specs.declared.Loaded.the-variants.{Nodes};
 ghost use Rattle.nodes.specs.Unpacking.{Unpacks};
+ghost use Rattle.spelling.specs.Puts.{Puts};
 ghost use Rattle.report.specs.Opened.{Opened};
+ghost use Rattle.report.specs.Lines.{told, ruleLine, ruleLines, header, refusedLine, reportOf, unreadableLine};
 
-pub mod text; // text.rt: a line put together and written
-
-// The longest line of a report has fewer bytes.
-const LINE: usize = 96;
-
-// One file of the folder cannot be read: its name.
-pub fn unreadable(path: &[u8]) {
-    let mut line = [0u8; LINE];
-    let at = text::put(&mut line, 0, b"unreadable ");
-    let end = text::put(&mut line, at, path);
-    text::write_line(&mut line, end);
+// The line of a file that cannot be read.
+pub fn unreadable(text: &mut [u8], name: &[u8]) -> usize
+    ensures { λ r. ⌜ Puts (now (text .entry)) 0 (unreadableLine (now (name .entry))) (now (text .exit)) r ⌝ }
+{
+    let word = spelling::put(text, 0, b"unreadable ");
+    let end = spelling::put(text, word, name);
+    spelling::put(text, end, b"\n")
 }
 
-// What a verdict says, after what stands on the line already: the word, the day, the record (dashes where the rule holds) and the count.
-pub fn put_verdict(line: &mut [u8], at: usize, found: Verdict) -> usize {
+// What a verdict says: the word, the day, the record (dashes where the rule holds) and the count.
+pub fn put_verdict(text: &mut [u8], at: usize, found: Verdict) -> usize
+    ensures { λ r. ⌜ Puts (now (text .entry)) at (told found) (now (text .exit)) r ⌝ }
+{
     match found {
         Verdict::Holds(count) => {
-            let word = text::put(line, at, b" holds - -");
-            text::put_next(line, word, count)
+            let word = spelling::put(text, at, b" holds - -");
+            spelling::put_next(text, word, count)
         }
         Verdict::Fails(day, record, count) => {
-            let word = text::put(line, at, b" fails");
-            let first = text::put_next(line, word, day);
-            let second = text::put_next(line, first, record);
-            text::put_next(line, second, count)
+            let word = spelling::put(text, at, b" fails");
+            let first = spelling::put_next(text, word, day);
+            let second = spelling::put_next(text, first, record);
+            spelling::put_next(text, second, count)
         }
         Verdict::Refused(number, place) => {
-            let word = text::put(line, at, b" refused");
-            let first = text::put_next(line, word, number);
-            text::put_next(line, first, place)
+            let word = spelling::put(text, at, b" refused");
+            let first = spelling::put_next(text, word, number);
+            spelling::put_next(text, first, place)
         }
     }
 }
 
-// Both images' one line where no rule can be judged: the number and the place of the refusal, which every rule number gets.
-fn write_refusal(nodes: &[u8], rules: &[u8], number: usize, place: usize)
-    requires { ⌜ ((k : ℕ) → verdict (now nodes) (now rules) k ≡ Refused number place) ⌝ }
+// The one line of a refusal: its number and its place.
+fn put_refusal(text: &mut [u8], number: usize, place: usize) -> usize
+    ensures { λ r. ⌜ Puts (now (text .entry)) 0 (refusedLine number place) (now (text .exit)) r ⌝ }
 {
-    let mut line = [0u8; LINE];
-    let word = text::put(&mut line, 0, b"refused");
-    let first = text::put_next(&mut line, word, number);
-    let end = text::put_next(&mut line, first, place);
-    text::write_line(&mut line, end);
+    let word = spelling::put(text, 0, b"refused");
+    let first = spelling::put_next(text, word, number);
+    let second = spelling::put_next(text, first, place);
+    spelling::put(text, second, b"\n")
 }
 
-// The line on rule k: nothing but the verdict on it may be written.
-fn write_verdict(nodes: &[u8], rules: &[u8], k: usize, found: Verdict)
-    requires { ⌜ found ≡ verdict (now nodes) (now rules) k ⌝ }
+// The line on rule k.
+fn put_rule(text: &mut [u8], at: usize, k: usize, found: Verdict) -> usize
+    ensures { λ r. ⌜ Puts (now (text .entry)) at (ruleLine k found) (now (text .exit)) r ⌝ }
 {
-    let mut line = [0u8; LINE];
-    let at = text::put_number(&mut line, 0, k);
-    let end = put_verdict(&mut line, at, found);
-    text::write_line(&mut line, end);
+    let number = spelling::put_number(text, at, k);
+    let end = put_verdict(text, number, found);
+    spelling::put(text, end, b"\n")
 }
 
 // A line for each rule. Cost: the verdict on each.
-fn write_verdicts(
+fn put_rules(
+    text: &mut [u8],
+    at: usize,
     nodes: &[u8],
     rules: &[u8],
     n: usize,
@@ -84,10 +81,12 @@ fn write_verdicts(
     value: &[i32],
     item: &[u32],
     rep: &[u16],
-)
+) -> usize
     requires { ⌜ Opened (now nodes) (now rules) n (now kind) (now vkind) (now name) (now parent) (now begin) (now end) (now value) (now item) (now rep) ⌝ }
+    ensures { λ r. ⌜ Puts (now (text .entry)) at (ruleLines (verdict (now (nodes .entry)) (now (rules .entry))) 0 (length (rulesOf (now (rules .entry))))) (now (text .exit)) r ⌝ }
 {
     let many = rules::count_rules(rules);
+    let mut to = at;
     let mut k = 0;
     while k < many {
         let found = judging::judge_rule(
@@ -104,21 +103,18 @@ fn write_verdicts(
             rules,
             k,
         );
-        write_verdict(nodes, rules, k, found);
+        to = put_rule(text, to, k, found);
         k += 1;
     }
-}
-
-fn write_header() {
-    let mut line = [0u8; LINE];
-    let end = text::put(&mut line, 0, b"rule verdict day record looked");
-    text::write_line(&mut line, end);
+    to
 }
 
 // The header and the lines, on both images accepted: the values are compared once for all rules.
-fn write_table(nodes: &[u8], rules: &[u8], columns: Columns, n: usize)
+fn put_table(text: &mut [u8], nodes: &[u8], rules: &[u8], columns: Columns, n: usize) -> usize
     requires { ⌜ Unpacks (now nodes) columns × (columns .loaded ≡ Nodes n) × (readRules (now rules) ≡ Accepted) ⌝ }
+    ensures { λ r. ⌜ Puts (now (text .entry)) 0 (reportOf (now (nodes .entry)) (now (rules .entry))) (now (text .exit)) r ⌝ }
 {
+    let at = spelling::put(text, 0, b"rule verdict day record looked\n");
     let kind = columns.kind;
     let vkind = columns.vkind;
     let name = columns.name;
@@ -128,8 +124,9 @@ fn write_table(nodes: &[u8], rules: &[u8], columns: Columns, n: usize)
     let value = columns.value;
     let item = columns.item;
     let rep = judging::represent_front(n, &kind, &vkind, &value);
-    write_header();
-    write_verdicts(
+    put_rules(
+        text,
+        at,
         nodes,
         rules,
         n,
@@ -142,26 +139,29 @@ fn write_table(nodes: &[u8], rules: &[u8], columns: Columns, n: usize)
         &value,
         &item,
         &rep,
-    );
+    )
 }
 
 // The report on an accepted node image.
-fn report_rules(nodes: &[u8], rules: &[u8], columns: Columns, n: usize)
+fn report_rules(text: &mut [u8], nodes: &[u8], rules: &[u8], columns: Columns, n: usize) -> usize
     requires { ⌜ Unpacks (now nodes) columns × (columns .loaded ≡ Nodes n) ⌝ }
+    ensures { λ r. ⌜ Puts (now (text .entry)) 0 (reportOf (now (nodes .entry)) (now (rules .entry))) (now (text .exit)) r ⌝ }
 {
     let read = rules::read_rules(rules);
     match read {
-        Reading::Refused(number, place) => write_refusal(nodes, rules, number, place),
-        Reading::Accepted => write_table(nodes, rules, columns, n),
+        Reading::Refused(number, place) => put_refusal(text, number, place),
+        Reading::Accepted => put_table(text, nodes, rules, columns, n),
     }
 }
 
 // The report on any two byte strings: each image is read once, whatever the number of rules.
-pub fn report(nodes: &[u8], rules: &[u8]) {
+pub fn report(text: &mut [u8], nodes: &[u8], rules: &[u8]) -> usize
+    ensures { λ r. ⌜ Puts (now (text .entry)) 0 (reportOf (now (nodes .entry)) (now (rules .entry))) (now (text .exit)) r ⌝ }
+{
     let columns = nodes::read_columns(nodes);
     let loaded = columns.loaded;
     match loaded {
-        Loaded::Refused(number, place) => write_refusal(nodes, rules, number, place),
-        Loaded::Nodes(n) => report_rules(nodes, rules, columns, n),
+        Loaded::Refused(number, place) => put_refusal(text, number, place),
+        Loaded::Nodes(n) => report_rules(text, nodes, rules, columns, n),
     }
 }

@@ -1,6 +1,7 @@
--- `report::report_rules` meets its contract: the rule image's refusal is every rule's, or both images are accepted.
+-- `report::report_rules` meets its contract: the rules' refusal, or the table.
 use mathlib.Core.Path.{sym, _∙_}
-use Rattle.report.proofs.Asking.{all-refused-rules}
+use Rattle.spelling.proofs.Pieces.{puts-as}
+use Rattle.report.proofs.Texts.{refused-rules}
 use borrow.Author.Needs.{needs}
 use Rattle.report.proofs.report_rules.Statement.{statement}
 use Rattle.report.proofs.report_rules.Tie as tie
@@ -11,21 +12,25 @@ read-rules-requires c κs = search needs
 enum-known-read : tie.Need-enum-known-read
 enum-known-read c = search needs
 
-write-refusal-requires : tie.Need-write-refusal-requires
-write-refusal-requires c κs =
-    let p = c .before .before .before .before .before .before .pre in
-    all-refused-rules _ _ (p .0) (p .1) (c .before .before .before .read-rules .ensures) (c .before .read .given .1)
+put-refusal-requires : tie.Need-put-refusal-requires
+put-refusal-requires c κs = search needs
 
 enum-told : tie.Need-enum-told
 enum-told c = search needs
 
-write-table-requires : tie.Need-write-table-requires
-write-table-requires c κs =
-    let p = c .before .before .before .before .before .pre in
-    (p .0, p .1, sym (c .before .before .read-rules .ensures) ∙ c .enum-told .given .1)
+put-table-requires : tie.Need-put-table-requires
+put-table-requires c κs = let p = c .before .before .before .before .before .before .before .pre in (p .0, p .1, sym (c .before .before .before .read-rules .ensures) ∙ c .before .enum-told .given .1)
+
+same-length : tie.Need-same-length
+same-length c = search needs
 
 returns : tie.Need-returns
-returns c = search needs
+returns c = 
+    let p = c .before .before .before .before .before .before .before .before .before .before .before .pre in
+    puts-as (c .before .before .put-refusal .ensures) (refused-rules _ (p .0) (p .1) (c .before .before .before .before .before .before .before .read-rules .ensures) (c .before .before .before .before .before .read .given .1))
+
+same-length-2 : tie.Need-same-length-2
+same-length-2 c = search needs
 
 returns-2 : tie.Need-returns-2
 returns-2 c = search needs
@@ -36,8 +41,10 @@ report-rules-spec =
     (tie.spec
     read-rules-requires
     enum-known-read
-    write-refusal-requires
+    put-refusal-requires
     enum-told
-    write-table-requires
+    put-table-requires
+    same-length
     returns
+    same-length-2
     returns-2)

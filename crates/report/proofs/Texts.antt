@@ -1,0 +1,54 @@
+-- The text of a report as it grows: line by line, and for every way that reading goes.
+use mathlib.Core.Path.{_≡_, refl, sym, ap, _∙_}
+use mathlib.Core.List.{List, [], _++_, append-assoc, append-nil}
+use Prim.Native.Nat.{ℕ, zero, suc, _+_, _≤_, _<_}
+use native.Mathlib.Numerals.{add-one}
+use native.Mathlib.Omega.{arith}
+use lib.ListN.{length}
+use Rattle.meaning.specs.declared.Verdict.{Verdict}
+use Rattle.meaning.specs.declared.Reading.{Reading}
+use Rattle.meaning.specs.declared.Reading.the-variants as reading
+use Rattle.meaning.specs.Rules.{rulesOf, readRules}
+use Rattle.meaning.specs.Answer.{verdict}
+use Rattle.nodes.specs.declared.Loaded.the-variants.{Nodes, Refused as Unloaded}
+use Rattle.nodes.specs.declared.Columns.{Columns}
+use Rattle.nodes.specs.Unpacking.{Unpacks}
+use Rattle.nodes.proofs.Held.{refused-image, held-image}
+use Rattle.spelling.specs.Puts.{Puts}
+use Rattle.spelling.proofs.Pieces.{puts-none, puts-as, puts-then}
+use Rattle.report.specs.Lines.{ruleLine, ruleLines, header, refusedLine, lineOr, reportOf}
+
+module _ (found : ℕ → Verdict) where
+  lines-more : (i n : ℕ) → ruleLines found i (suc n) ≡ ruleLines found i n ++ ruleLine (i + n) (found (i + n))
+  unfolding ruleLines
+  lines-more i zero = let e : i + 0 ≡ i = omega arith in rw e (append-nil (ruleLine i (found i)))
+  lines-more i (suc n) =
+      let e : i + suc n ≡ suc i + n = omega arith in
+      rw e (ap (λ l. ruleLine i (found i) ++ l) (lines-more (suc i) n) ∙ sym (append-assoc (ruleLine i (found i)) (ruleLines found (suc i) n) (ruleLine (suc i + n) (found (suc i + n)))))
+
+  pub rules-none : (text : List ℕ) (at : ℕ) → Puts text at (ruleLines found 0 0) text at
+  unfolding ruleLines
+  rules-none text at = puts-none text at
+
+  pub rules-more : {old now next : List ℕ} {at to end : ℕ} (k : ℕ) {x : Verdict} → Puts old at (ruleLines found 0 k) now to → Puts now to (ruleLine k x) next end → x ≡ found k
+      → Puts old at (ruleLines found 0 (k + 1)) next end
+  rules-more k p q e =
+      let z : 0 + k ≡ k = omega arith in
+      puts-as (puts-then p (puts-as q (ap (ruleLine k) e))) (rw (add-one, lines-more 0 k, z) refl)
+
+  pub rules-all : {old now : List ℕ} {at to : ℕ} {k n : ℕ} → Puts old at (ruleLines found 0 k) now to → k ≤ n → n ≤ k → Puts old at (ruleLines found 0 n) now to
+  rules-all {k = k} {n} p a b = let e : k ≡ n = omega arith in puts-as p (ap (ruleLines found 0) e)
+
+module _ {nodes : List ℕ} (rules : List ℕ) {c : Columns} (u : Unpacks nodes c) where
+  pub refused-nodes : {a b : ℕ} → c .loaded ≡ Unloaded a b → refusedLine a b ≡ reportOf nodes rules
+  unfolding reportOf lineOr
+  refused-nodes e = rw (refused-image nodes (u .answer) e) refl
+
+  module _ {n : ℕ} (e : c .loaded ≡ Nodes n) where
+    pub refused-rules : {y : Reading} → y ≡ readRules rules → {a b : ℕ} → y ≡ reading.Refused a b → refusedLine a b ≡ reportOf nodes rules
+    unfolding reportOf lineOr
+    refused-rules s t = rw (held-image nodes (u .answer) e .accepted, sym s ∙ t) refl
+
+    pub accepted-both : readRules rules ≡ reading.Accepted → header ++ ruleLines (verdict nodes rules) 0 (length (rulesOf rules)) ≡ reportOf nodes rules
+    unfolding reportOf lineOr
+    accepted-both t = rw (held-image nodes (u .answer) e .accepted, t) refl

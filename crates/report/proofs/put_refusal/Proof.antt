@@ -1,0 +1,45 @@
+-- `report::put_refusal` meets its contract.
+use Rattle.spelling.specs.Spelled.{word}
+use Rattle.spelling.proofs.Pieces.{puts-then}
+use Rattle.report.specs.Lines.{refusedLine}
+use borrow.Author.Needs.{needs}
+use Rattle.report.proofs.put_refusal.Statement.{statement}
+use Rattle.report.proofs.put_refusal.Tie as tie
+
+slice-aggregate-put : tie.Need-slice-aggregate-put
+slice-aggregate-put c = search needs
+
+put-requires : tie.Need-put-requires
+put-requires c κs = search needs
+
+put-next-requires : tie.Need-put-next-requires
+put-next-requires c κs = search needs
+
+put-next-requires-2 : tie.Need-put-next-requires-2
+put-next-requires-2 c κs = search needs
+
+slice-aggregate-put-2 : tie.Need-slice-aggregate-put-2
+slice-aggregate-put-2 c = search needs
+
+put-requires-2 : tie.Need-put-requires-2
+put-requires-2 c κs = search needs
+
+same-length : tie.Need-same-length
+same-length c = search needs
+
+returns : tie.Need-returns
+unfolding refusedLine word
+returns c = puts-then (puts-then (puts-then (c .before .before .before .before .before .before .before .before .before .before .before .before .before .before .before .put .ensures) (c .before .before .before .before .before .before .before .before .before .before .before .put-next .ensures)) (c .before .before .before .before .before .before .before .put-next2 .ensures)) (c .before .before .put2 .ensures)
+
+pub put-refusal-spec : {M : Type 1} → statement M
+put-refusal-spec =
+    tie.close
+    (tie.spec
+    slice-aggregate-put
+    put-requires
+    put-next-requires
+    put-next-requires-2
+    slice-aggregate-put-2
+    put-requires-2
+    same-length
+    returns)

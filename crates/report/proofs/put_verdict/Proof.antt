@@ -1,0 +1,103 @@
+-- `report::put_verdict` meets its contract: each arm spells its own verdict.
+use mathlib.Core.Path.{sym, ap}
+use Rattle.spelling.specs.Spelled.{word}
+use Rattle.spelling.proofs.Pieces.{puts-as, puts-then}
+use Rattle.report.specs.Lines.{told}
+use borrow.Author.Needs.{needs}
+use Rattle.report.proofs.put_verdict.Statement.{statement}
+use Rattle.report.proofs.put_verdict.Tie as tie
+
+enum-known-found : tie.Need-enum-known-found
+enum-known-found c = search needs
+
+slice-aggregate-put : tie.Need-slice-aggregate-put
+slice-aggregate-put c = search needs
+
+put-requires : tie.Need-put-requires
+put-requires c κs = search needs
+
+put-next-requires : tie.Need-put-next-requires
+put-next-requires c κs = search needs
+
+enum-known-found-2 : tie.Need-enum-known-found-2
+enum-known-found-2 c = search needs
+
+slice-aggregate-put-2 : tie.Need-slice-aggregate-put-2
+slice-aggregate-put-2 c = search needs
+
+put-requires-2 : tie.Need-put-requires-2
+put-requires-2 c κs = search needs
+
+put-next-requires-2 : tie.Need-put-next-requires-2
+put-next-requires-2 c κs = search needs
+
+put-next-requires-3 : tie.Need-put-next-requires-3
+put-next-requires-3 c κs = search needs
+
+put-next-requires-4 : tie.Need-put-next-requires-4
+put-next-requires-4 c κs = search needs
+
+enum-known-found-3 : tie.Need-enum-known-found-3
+enum-known-found-3 c = search needs
+
+slice-aggregate-put-3 : tie.Need-slice-aggregate-put-3
+slice-aggregate-put-3 c = search needs
+
+put-requires-3 : tie.Need-put-requires-3
+put-requires-3 c κs = search needs
+
+put-next-requires-5 : tie.Need-put-next-requires-5
+put-next-requires-5 c κs = search needs
+
+put-next-requires-6 : tie.Need-put-next-requires-6
+put-next-requires-6 c κs = search needs
+
+same-length : tie.Need-same-length
+same-length c = search needs
+
+returns : tie.Need-returns
+unfolding told word
+returns c = puts-as (puts-then (c .before .before .before .before .before .before .put .ensures) (c .before .before .put-next .ensures)) (sym (ap told (c .before .before .before .before .before .before .before .before .before .before .found .given .1)))
+
+same-length-2 : tie.Need-same-length-2
+same-length-2 c = search needs
+
+returns-2 : tie.Need-returns-2
+unfolding told word
+returns-2 c = 
+    puts-as
+    (puts-then (puts-then (puts-then (c .before .before .before .before .before .before .before .before .before .before .before .before .before .before .put2 .ensures) (c .before .before .before .before .before .before .before .before .before .before .put-next2 .ensures)) (c .before .before .before .before .before .before .put-next3 .ensures)) (c .before .before .put-next4 .ensures))
+    (sym (ap told (c .before .before .before .before .before .before .before .before .before .before .before .before .before .before .before .before .before .before .found2 .given .1)))
+
+same-length-3 : tie.Need-same-length-3
+same-length-3 c = search needs
+
+returns-3 : tie.Need-returns-3
+unfolding told word
+returns-3 c = puts-as (puts-then (puts-then (c .before .before .before .before .before .before .before .before .before .before .put3 .ensures) (c .before .before .before .before .before .before .put-next5 .ensures)) (c .before .before .put-next6 .ensures)) (sym (ap told (c .before .before .before .before .before .before .before .before .before .before .before .before .before .before .found3 .given .1)))
+
+pub put-verdict-spec : {M : Type 1} → statement M
+put-verdict-spec =
+    tie.close
+    (tie.spec
+    enum-known-found
+    slice-aggregate-put
+    put-requires
+    put-next-requires
+    enum-known-found-2
+    slice-aggregate-put-2
+    put-requires-2
+    put-next-requires-2
+    put-next-requires-3
+    put-next-requires-4
+    enum-known-found-3
+    slice-aggregate-put-3
+    put-requires-3
+    put-next-requires-5
+    put-next-requires-6
+    same-length
+    returns
+    same-length-2
+    returns-2
+    same-length-3
+    returns-3)

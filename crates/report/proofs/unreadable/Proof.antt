@@ -1,0 +1,41 @@
+-- `report::unreadable` meets its contract.
+use Rattle.spelling.specs.Spelled.{word}
+use Rattle.spelling.proofs.Pieces.{puts-then}
+use Rattle.report.specs.Lines.{unreadableLine}
+use borrow.Author.Needs.{needs}
+use Rattle.report.proofs.unreadable.Statement.{statement}
+use Rattle.report.proofs.unreadable.Tie as tie
+
+slice-aggregate-put : tie.Need-slice-aggregate-put
+slice-aggregate-put c = search needs
+
+put-requires : tie.Need-put-requires
+put-requires c κs = search needs
+
+put-requires-2 : tie.Need-put-requires-2
+put-requires-2 c κs = search needs
+
+slice-aggregate-put-2 : tie.Need-slice-aggregate-put-2
+slice-aggregate-put-2 c = search needs
+
+put-requires-3 : tie.Need-put-requires-3
+put-requires-3 c κs = search needs
+
+same-length : tie.Need-same-length
+same-length c = search needs
+
+returns : tie.Need-returns
+unfolding unreadableLine word
+returns c = puts-then (puts-then (c .before .before .before .before .before .before .before .before .before .before .before .put .ensures) (c .before .before .before .before .before .before .before .put2 .ensures)) (c .before .before .put3 .ensures)
+
+pub unreadable-spec : {M : Type 1} → statement M
+unreadable-spec =
+    tie.close
+    (tie.spec
+    slice-aggregate-put
+    put-requires
+    put-requires-2
+    slice-aggregate-put-2
+    put-requires-3
+    same-length
+    returns)

@@ -1,0 +1,3 @@
+-- The laws of putting text together.
+pub mod Pieces
+pub mod Numerals

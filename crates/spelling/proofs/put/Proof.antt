@@ -1,0 +1,65 @@
+-- `spelling::put` meets its contract: after i bytes, putting the others is what putting all was.
+use mathlib.Core.Path.{_≡_}
+use Prim.Native.Nat.{_-_}
+use borrow.Author.Needs.{needs}
+use lib.ListN.{length}
+use Rattle.spelling.proofs.Pieces.{Putting, putting-none, putting-more, putting-full, putting-all}
+use Rattle.spelling.proofs.put.Statement.{statement}
+use Rattle.spelling.proofs.put.Tie as tie
+
+abbrev Inv-loop : tie.InvT-loop
+Inv-loop text₀ at piece to₀ i₀ text to i = Putting text₀ at piece text to i
+
+abbrev μ-loop : tie.MeasureT-loop
+μ-loop text₀ at piece to₀ i₀ text to i = length piece - i
+
+loop-holds : tie.Need-loop-holds Inv-loop μ-loop
+loop-holds c = putting-none _ _ _
+
+same-length : tie.Need-same-length Inv-loop μ-loop
+same-length c = search needs
+
+returns : tie.Need-returns Inv-loop μ-loop
+returns c = putting-full (c .before .before .loop .inv) (search needs) (search needs)
+
+shared-slice-read-text : tie.Need-shared-slice-read-text Inv-loop μ-loop
+shared-slice-read-text c = search needs
+
+slice-write-text : tie.Need-slice-write-text Inv-loop μ-loop
+slice-write-text c = search needs
+
+add-to : tie.Need-add-to Inv-loop μ-loop
+add-to c = search needs
+
+add-i : tie.Need-add-i Inv-loop μ-loop
+add-i c = search needs
+
+loop-less : tie.Need-loop-less Inv-loop μ-loop
+loop-less c = search needs
+
+loop-again : tie.Need-loop-again Inv-loop μ-loop
+loop-again c = putting-more (c .before .before .before .loop .inv) (search needs) (search needs)
+
+same-length-2 : tie.Need-same-length-2 Inv-loop μ-loop
+same-length-2 c = search needs
+
+returns-2 : tie.Need-returns-2 Inv-loop μ-loop
+returns-2 c = putting-all (c .before .loop .inv) (search needs)
+
+pub put-spec : {M : Type 1} → statement M
+put-spec =
+    tie.close
+    (tie.spec
+    Inv-loop
+    μ-loop
+    loop-holds
+    same-length
+    returns
+    shared-slice-read-text
+    slice-write-text
+    add-to
+    add-i
+    loop-less
+    loop-again
+    same-length-2
+    returns-2)
