@@ -1,6 +1,7 @@
 // Reads pairs of images from `pairs.blk` of its folder and prints for each its report, two slices, the change days of two rules and the
 // verdicts on them. A test program, so that many pairs run in one process. A pair is a header of 20 bytes and the two images.
 use files::Got;
+use libc::STDOUT_FILENO;
 use meaning::Listed;
 
 // The largest good images, and one byte more, so that a longer one is refused by its length.
@@ -17,6 +18,29 @@ const LINE: usize = 16384;
 // More pairs than any file has.
 const MANY: usize = 4294967296;
 
+// No report is longer.
+const TEXT_ROOM: usize = 9031;
+
+// Ends the line before `at` and writes it.
+fn write_line(line: &mut [u8], at: usize) {
+    let end = spelling::put(line, at, b"\n");
+    io::write_all(STDOUT_FILENO, spelling::front(line, end));
+}
+
+// The report on a pair.
+fn write_report(nodes: &[u8], rules: &[u8]) {
+    let mut text = [0u8; TEXT_ROOM];
+    let end = report::report(&mut text, nodes, rules);
+    io::write_all(STDOUT_FILENO, spelling::front(&text, end));
+}
+
+// The line of a file that cannot be read.
+fn write_unreadable(name: &[u8]) {
+    let mut text = [0u8; TEXT_ROOM];
+    let end = report::unreadable(&mut text, name);
+    io::write_all(STDOUT_FILENO, spelling::front(&text, end));
+}
+
 // The number in two bytes.
 fn pair(low: u8, high: u8) -> usize {
     (low as usize) + 256 * (high as usize)
@@ -24,7 +48,7 @@ fn pair(low: u8, high: u8) -> usize {
 
 // A number of a list, after a space.
 fn put_entry(line: &mut [u8], at: usize, x: u16) -> usize {
-    report::text::put_next(line, at, x as usize)
+    spelling::put_next(line, at, x as usize)
 }
 
 // The first n numbers of a list, or all.
@@ -44,19 +68,19 @@ fn put_entries(line: &mut [u8], at: usize, list: &[u16], n: usize) -> usize {
 // The line of a list: the word, what was asked, and what a list call answered and stored.
 fn write_list(word: &[u8], asked: usize, listed: Listed, list: &[u16]) {
     let mut line = [0u8; LINE];
-    let named = report::text::put(&mut line, 0, word);
-    let at = report::text::put_next(&mut line, named, asked);
+    let named = spelling::put(&mut line, 0, word);
+    let at = spelling::put_next(&mut line, named, asked);
     match listed {
         Listed::Stored(n) => {
-            let counted = report::text::put_next(&mut line, at, n);
+            let counted = spelling::put_next(&mut line, at, n);
             let end = put_entries(&mut line, counted, list, n);
-            report::text::write_line(&mut line, end);
+            write_line(&mut line, end);
         }
         Listed::Refused(number, place) => {
-            let told = report::text::put(&mut line, at, b" refused");
-            let first = report::text::put_next(&mut line, told, number);
-            let end = report::text::put_next(&mut line, first, place);
-            report::text::write_line(&mut line, end);
+            let told = spelling::put(&mut line, at, b" refused");
+            let first = spelling::put_next(&mut line, told, number);
+            let end = spelling::put_next(&mut line, first, place);
+            write_line(&mut line, end);
         }
     }
 }
@@ -92,19 +116,19 @@ fn write_changes_in(nodes: &[u8], rules: &[u8], rule: usize, room: usize) {
 // The verdict on a rule by its number.
 fn write_verdict(nodes: &[u8], rules: &[u8], rule: usize) {
     let mut line = [0u8; LINE];
-    let named = report::text::put(&mut line, 0, b"verdict");
-    let at = report::text::put_next(&mut line, named, rule);
+    let named = spelling::put(&mut line, 0, b"verdict");
+    let at = spelling::put_next(&mut line, named, rule);
     let end = report::put_verdict(&mut line, at, bank::verdict(nodes, rules, rule));
-    report::text::write_line(&mut line, end);
+    write_line(&mut line, end);
 }
 
 // All lines of one pair.
 fn write_pair(number: usize, head: [u8; 20], nodes: &[u8], rules: &[u8]) {
     let mut line = [0u8; LINE];
-    let named = report::text::put(&mut line, 0, b"pair");
-    let end = report::text::put_next(&mut line, named, number);
-    report::text::write_line(&mut line, end);
-    report::report(nodes, rules);
+    let named = spelling::put(&mut line, 0, b"pair");
+    let end = spelling::put_next(&mut line, named, number);
+    write_line(&mut line, end);
+    write_report(nodes, rules);
     let first = pair(head[12], head[13]);
     let second = pair(head[14], head[15]);
     let room = pair(head[16], head[17]);
@@ -151,8 +175,8 @@ fn one_pair(fd: i32, number: usize) -> bool {
     write_pair(
         number,
         head,
-        report::text::front(&nodes, n),
-        report::text::front(&rules, m),
+        spelling::front(&nodes, n),
+        spelling::front(&rules, m),
     );
     true
 }
@@ -160,7 +184,7 @@ fn one_pair(fd: i32, number: usize) -> bool {
 fn main() {
     let fd = os::open_read(b"pairs.blk");
     if fd < 0 {
-        report::unreadable(b"pairs.blk");
+        write_unreadable(b"pairs.blk");
         return;
     }
     let mut number: usize = 0;

@@ -38,7 +38,7 @@ module _ {old : List ℕ} {at : ℕ} {piece now : List ℕ} {to i : ℕ} (p : Pu
         some = omega arith;
         fit = omega (arith, p .place, p .size);
         place = omega (arith, p .place);
-        rest = rw (add-one to, add-one i) (ap (λ l. sets now to l) (sym (drop-cons piece i 0 h)) ∙ p .rest)
+        rest = rw (add-one to, add-one i) (ap (λ l. sets now to l) (sym (drop-cons piece i 0 h)) ∙ p .rest);
       }
 
   pub putting-full : i < length piece → length now ≤ to → Puts old at piece now to
@@ -64,10 +64,10 @@ puts-then {l} {m} {n} {a} {b} {at} {r} {s} p q =
     let both = sets-append l at a b in
     let pl = p .place in
     let fits : length a ≤ length l - at → n ≡ sets l at (a ++ b) = λ h.
-        let e : r ≡ at + length a = omega arith in
-        q .text ∙ ap (λ k. sets m k b) e ∙ ap (λ t. sets t (at + length a) b) (p .text) ∙ sym both in
+    let e : r ≡ at + length a = omega arith in
+    q .text ∙ ap (λ k. sets m k b) e ∙ ap (λ t. sets t (at + length a) b) (p .text) ∙ sym both in
     let full : length l - at < length a → n ≡ sets l at (a ++ b) = λ h.
-        q .text ∙ sets-out m r b (omega arith) ∙ p .text ∙ sym (sets-out (sets l at a) (at + length a) b (omega (arith, length-sets l at a))) ∙ sym both in
+    q .text ∙ sets-out m r b (omega arith) ∙ p .text ∙ sym (sets-out (sets l at a) (at + length a) b (omega (arith, length-sets l at a))) ∙ sym both in
     record { text = ⊎-elim fits full (le-or-lt (length a) (length l - at)); place = omega (arith, pl, q .place, length-append a b) }
 
 -- where all fits, the front is the text

@@ -25,7 +25,7 @@ loop-holds : tie.Need-loop-holds Inv-loop μ-loop
 loop-holds c = (refl, search needs, rules-none _ _ _)
 
 judge-rule-requires : tie.Need-judge-rule-requires Inv-loop μ-loop
-judge-rule-requires c κs = 
+judge-rule-requires c κs =
     let p = c .before .before .before .before .before .before .before .before .before .before .before .before .before .before .pre in
     ((p .fronts, p .represents), (p .table, rule-here _ _ (p .accepted) (p .table) (c .before .before .count-rules .ensures) (c .loop-test .taken)))
 
@@ -39,7 +39,7 @@ loop-less : tie.Need-loop-less Inv-loop μ-loop
 loop-less c = search needs
 
 loop-again : tie.Need-loop-again Inv-loop μ-loop
-loop-again c = 
+loop-again c =
     let p = c .before .before .before .before .before .before .before .before .before .before .before .before .before .before .before .before .before .before .before .pre in
     let l = c .before .before .before .before .before .before .loop in
     let found = judged-here _ _ (p .accepted) (p .table) (c .before .before .before .before .before .before .before .count-rules .ensures) (c .before .before .before .before .before .loop-test .taken) (p .document) (c .before .before .before .before .judge-rule .ensures (p .fronts .doc) (p .fronts .whole) (p .represents)) in

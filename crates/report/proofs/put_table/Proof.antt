@@ -25,7 +25,7 @@ slice-aggregate-represent-front-3 : tie.Need-slice-aggregate-represent-front-3
 slice-aggregate-represent-front-3 c = search needs
 
 represent-front-requires : tie.Need-represent-front-requires
-represent-front-requires c κs = 
+represent-front-requires c κs =
     let p = c .before .before .before .before .before .before .before .before .before .before .before .before .before .before .before .before .before .before .before .pre in
     let f = fronts (p .0) (p .1) in
     (f .kind, f .vkind, f .value, (f .doc, f .whole .values-held, f .whole .checked .few))
@@ -58,7 +58,7 @@ slice-aggregate-put-rules-9 : tie.Need-slice-aggregate-put-rules-9
 slice-aggregate-put-rules-9 c = search needs
 
 put-rules-requires : tie.Need-put-rules-requires
-put-rules-requires c κs = 
+put-rules-requires c κs =
     let p = c .before .before .before .before .before .before .before .before .before .before .before .before .before .before .before .before .before .before .before .before .before .before .before .before .before .before .before .before .before .before .pre in
     opened (p .0) (p .1) (p .2) (c .before .before .before .before .before .before .before .before .before .before .represent-front .ensures _ (p .0 .whole _ (p .1) .values-held))
 
@@ -67,7 +67,7 @@ same-length c = search needs
 
 returns : tie.Need-returns
 unfolding header word
-returns c = 
+returns c =
     let p = c .before .before .before .before .before .before .before .before .before .before .before .before .before .before .before .before .before .before .before .before .before .before .before .before .before .before .before .before .before .before .before .before .before .pre in
     puts-as (puts-then (c .before .before .before .before .before .before .before .before .before .before .before .before .before .before .before .before .before .before .before .before .before .before .before .before .before .before .before .put .ensures) (c .before .before .put-rules .ensures)) (accepted-both _ (p .0) (p .1) (p .2))
 

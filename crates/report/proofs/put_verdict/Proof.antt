@@ -64,7 +64,7 @@ same-length-2 c = search needs
 
 returns-2 : tie.Need-returns-2
 unfolding told word
-returns-2 c = 
+returns-2 c =
     puts-as
     (puts-then (puts-then (puts-then (c .before .before .before .before .before .before .before .before .before .before .before .before .before .before .put2 .ensures) (c .before .before .before .before .before .before .before .before .before .before .put-next2 .ensures)) (c .before .before .before .before .before .before .put-next3 .ensures)) (c .before .before .put-next4 .ensures))
     (sym (ap told (c .before .before .before .before .before .before .before .before .before .before .before .before .before .before .before .before .before .before .found2 .given .1)))

@@ -25,7 +25,7 @@ same-length : tie.Need-same-length
 same-length c = search needs
 
 returns : tie.Need-returns
-returns c = 
+returns c =
     let p = c .before .before .before .before .before .before .before .before .before .before .before .pre in
     puts-as (c .before .before .put-refusal .ensures) (refused-rules _ (p .0) (p .1) (c .before .before .before .before .before .before .before .read-rules .ensures) (c .before .before .before .before .before .read .given .1))
 
