@@ -15,13 +15,13 @@ fn main() {
     let mut text = [0u8; TEXT_ROOM];
     let mut nodes = [0u8; NODES_ROOM];
     let Got::Bytes(n) = files::load(b"nodes.blk", &mut nodes) else {
-        let end = report::unreadable(&mut text, b"nodes.blk");
+        let end = spelling::lines::unreadable(&mut text, b"nodes.blk");
         io::write_all(STDOUT_FILENO, spelling::front(&text, end));
         return;
     };
     let mut rules = [0u8; RULES_ROOM];
     let Got::Bytes(m) = files::load(b"rules.blk", &mut rules) else {
-        let end = report::unreadable(&mut text, b"rules.blk");
+        let end = spelling::lines::unreadable(&mut text, b"rules.blk");
         io::write_all(STDOUT_FILENO, spelling::front(&text, end));
         return;
     };

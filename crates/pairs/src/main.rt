@@ -37,7 +37,7 @@ fn write_report(nodes: &[u8], rules: &[u8]) {
 // The line of a file that cannot be read.
 fn write_unreadable(name: &[u8]) {
     let mut text = [0u8; TEXT_ROOM];
-    let end = report::unreadable(&mut text, name);
+    let end = spelling::lines::unreadable(&mut text, name);
     io::write_all(STDOUT_FILENO, spelling::front(&text, end));
 }
 
@@ -118,7 +118,7 @@ fn write_verdict(nodes: &[u8], rules: &[u8], rule: usize) {
     let mut line = [0u8; LINE];
     let named = spelling::put(&mut line, 0, b"verdict");
     let at = spelling::put_next(&mut line, named, rule);
-    let end = report::put_verdict(&mut line, at, bank::verdict(nodes, rules, rule));
+    let end = spelling::lines::put_verdict(&mut line, at, bank::verdict(nodes, rules, rule));
     write_line(&mut line, end);
 }
 

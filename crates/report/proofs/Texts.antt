@@ -1,7 +1,7 @@
 -- The text of a report as it grows: line by line, and for every way that reading goes.
 use mathlib.Core.Path.{_≡_, refl, sym, ap, _∙_}
-use mathlib.Core.List.{List, [], _++_, append-assoc, append-nil}
-use Prim.Native.Nat.{ℕ, zero, suc, _+_, _≤_, _<_}
+use mathlib.Core.List.{List, _++_, append-assoc, append-nil}
+use Prim.Native.Nat.{ℕ, zero, suc, _+_, _≤_}
 use native.Mathlib.Numerals.{add-one}
 use native.Mathlib.Omega.{arith}
 use lib.ListN.{length}
@@ -16,7 +16,8 @@ use Rattle.nodes.specs.Unpacking.{Unpacks}
 use Rattle.nodes.proofs.Held.{refused-image, held-image}
 use Rattle.spelling.specs.Puts.{Puts}
 use Rattle.spelling.proofs.Pieces.{puts-none, puts-as, puts-then}
-use Rattle.report.specs.Lines.{ruleLine, ruleLines, header, refusedLine, lineOr, reportOf}
+use Rattle.spelling.specs.Lines.{ruleLine, header, refusedLine}
+use Rattle.report.specs.Text.{ruleLines, lineOr, reportOf}
 
 module _ (found : ℕ → Verdict) where
   lines-more : (i n : ℕ) → ruleLines found i (suc n) ≡ ruleLines found i n ++ ruleLine (i + n) (found (i + n))

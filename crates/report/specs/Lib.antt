@@ -1,3 +1,3 @@
 -- The definitions that the contracts cite.
 pub mod Opened
-pub mod Lines
+pub mod Text

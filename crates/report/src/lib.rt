@@ -1,6 +1,5 @@
 // The text of a report on two images, in a lent buffer: a header and a line for each rule, or one line that says why there is none.
 use meaning::Reading;
-use meaning::Verdict;
 use nodes::Columns;
 use nodes::Loaded;
 ghost use mathlib.Core.Path.{_≡_};
@@ -12,58 +11,7 @@ ghost use Rattle.nodes.specs.declared.Loaded.the-variants.{Nodes};
 ghost use Rattle.nodes.specs.Unpacking.{Unpacks};
 ghost use Rattle.spelling.specs.Puts.{Puts};
 ghost use Rattle.report.specs.Opened.{Opened};
-ghost use Rattle.report.specs.Lines.{told, ruleLine, ruleLines, header, refusedLine, reportOf, unreadableLine};
-
-// The line of a file that cannot be read.
-pub fn unreadable(text: &mut [u8], name: &[u8]) -> usize
-    ensures { λ r. ⌜ Puts (now (text .entry)) 0 (unreadableLine (now (name .entry))) (now (text .exit)) r ⌝ }
-{
-    let word = spelling::put(text, 0, b"unreadable ");
-    let end = spelling::put(text, word, name);
-    spelling::put(text, end, b"\n")
-}
-
-// What a verdict says: the word, the day, the record (dashes where the rule holds) and the count.
-pub fn put_verdict(text: &mut [u8], at: usize, found: Verdict) -> usize
-    ensures { λ r. ⌜ Puts (now (text .entry)) at (told found) (now (text .exit)) r ⌝ }
-{
-    match found {
-        Verdict::Holds(count) => {
-            let word = spelling::put(text, at, b" holds - -");
-            spelling::put_next(text, word, count)
-        }
-        Verdict::Fails(day, record, count) => {
-            let word = spelling::put(text, at, b" fails");
-            let first = spelling::put_next(text, word, day);
-            let second = spelling::put_next(text, first, record);
-            spelling::put_next(text, second, count)
-        }
-        Verdict::Refused(number, place) => {
-            let word = spelling::put(text, at, b" refused");
-            let first = spelling::put_next(text, word, number);
-            spelling::put_next(text, first, place)
-        }
-    }
-}
-
-// The one line of a refusal: its number and its place.
-fn put_refusal(text: &mut [u8], number: usize, place: usize) -> usize
-    ensures { λ r. ⌜ Puts (now (text .entry)) 0 (refusedLine number place) (now (text .exit)) r ⌝ }
-{
-    let word = spelling::put(text, 0, b"refused");
-    let first = spelling::put_next(text, word, number);
-    let second = spelling::put_next(text, first, place);
-    spelling::put(text, second, b"\n")
-}
-
-// The line on rule k.
-fn put_rule(text: &mut [u8], at: usize, k: usize, found: Verdict) -> usize
-    ensures { λ r. ⌜ Puts (now (text .entry)) at (ruleLine k found) (now (text .exit)) r ⌝ }
-{
-    let number = spelling::put_number(text, at, k);
-    let end = put_verdict(text, number, found);
-    spelling::put(text, end, b"\n")
-}
+ghost use Rattle.report.specs.Text.{ruleLines, reportOf};
 
 // A line for each rule. Cost: the verdict on each.
 fn put_rules(
@@ -103,7 +51,7 @@ fn put_rules(
             rules,
             k,
         );
-        to = put_rule(text, to, k, found);
+        to = spelling::lines::put_rule(text, to, k, found);
         k += 1;
     }
     to
@@ -114,7 +62,7 @@ fn put_table(text: &mut [u8], nodes: &[u8], rules: &[u8], columns: Columns, n: u
     requires { ⌜ Unpacks (now nodes) columns × (columns .loaded ≡ Nodes n) × (readRules (now rules) ≡ Accepted) ⌝ }
     ensures { λ r. ⌜ Puts (now (text .entry)) 0 (reportOf (now (nodes .entry)) (now (rules .entry))) (now (text .exit)) r ⌝ }
 {
-    let at = spelling::put(text, 0, b"rule verdict day record looked\n");
+    let at = spelling::lines::put_header(text);
     let kind = columns.kind;
     let vkind = columns.vkind;
     let name = columns.name;
@@ -149,7 +97,7 @@ fn report_rules(text: &mut [u8], nodes: &[u8], rules: &[u8], columns: Columns, n
 {
     let read = rules::read_rules(rules);
     match read {
-        Reading::Refused(number, place) => put_refusal(text, number, place),
+        Reading::Refused(number, place) => spelling::lines::put_refusal(text, number, place),
         Reading::Accepted => put_table(text, nodes, rules, columns, n),
     }
 }
@@ -161,7 +109,7 @@ pub fn report(text: &mut [u8], nodes: &[u8], rules: &[u8]) -> usize
     let columns = nodes::read_columns(nodes);
     let loaded = columns.loaded;
     match loaded {
-        Loaded::Refused(number, place) => put_refusal(text, number, place),
+        Loaded::Refused(number, place) => spelling::lines::put_refusal(text, number, place),
         Loaded::Nodes(n) => report_rules(text, nodes, rules, columns, n),
     }
 }

@@ -3,7 +3,7 @@ use mathlib.Core.Path.{_≡_, refl, sym, ap, _∙_}
 use mathlib.Core.Bool.{true, _||_}
 use mathlib.Core.Logic.{⊎-elim}
 use mathlib.Core.List.{List}
-use Prim.Native.Nat.{ℕ, _<_}
+use Prim.Native.Nat.{ℕ, _≤_, _<_}
 use native.Mathlib.Nat.{zero-add}
 use native.Mathlib.Omega.{arith}
 use borrow.Author.Tests.{eqb-true, eq-eqb}
@@ -61,7 +61,14 @@ module _ {image : List ℕ} where
       let all = count-all read refl refl in
       record { fair = fair; inside = omega (arith, all .count, all .inside, length-rules image, r .below) }
 
--- a table that was accepted
+-- an accepted table has at most a hundred rules
+pub accepted-few : (image : List ℕ) → readRules image ≡ Accepted → length (rulesOf image) ≤ 100
+accepted-few image a =
+    let read : Read ruleForm image = record { fair = fair; accepted = accepted-blocks image a } in
+    let t = counted (accepted-blocks image a) (count-all read refl refl) in
+    omega (arith, t .count, t .few)
+
+-- a rule of a table that was accepted
 module _ (image : List ℕ) (a : readRules image ≡ Accepted) (k : ℕ) (h : k < length (rulesOf image)) where
   pub accepted-row : Row image k
   accepted-row = record { blocks = accepted-blocks image a; below = h }

@@ -1,3 +1,4 @@
 -- The laws of putting text together.
 pub mod Pieces
 pub mod Numerals
+pub mod Rooms

@@ -5,9 +5,11 @@ use mathlib.Core.List.{_∷_, [], _++_}
 use Prim.Native.Nat.{ℕ, zero, suc, _+_, _-_, _/_, _%_, _^_, _≤_, _<_}
 use native.Mathlib.Nat.{pow-le-pow-right}
 use native.Mathlib.Omega.{arith}
+use lib.Dec.{ltb}
+use lib.ListN.{length, length-append}
 use borrow.Author.Tests.{lt-ltb, le-ltb}
 use Rattle.io.specs.Digits.{digits, Fewest}
-use Rattle.meaning.proofs.Basics.{le-or-lt}
+use Rattle.meaning.proofs.Basics.{went, le-or-lt}
 use Rattle.spelling.specs.Spelled.{word, digitsOf, decimal, spaced}
 
 as-digits : (f k n : ℕ) → k < f → n < 10 ^ suc k → (1 < suc k → 10 ^ k ≤ n) → digits 10 (suc k) n ≡ digitsOf f n
@@ -29,6 +31,19 @@ in-decimal {n} (suc k) h f =
     (λ (many : 20 ≤ k). absurd (omega (arith, least (omega arith), pow-le-pow-right {n = 10} (omega arith) many)))
     (λ few. as-digits 20 k n few (f .1) least)
     (le-or-lt 20 k)
+
+few-digits : (k n : ℕ) → length (digitsOf k n) ≤ k
+unfolding digitsOf
+few-digits zero n = omega arith
+few-digits (suc k) n =
+    ⊎-elim
+    (λ e. rw e (omega arith))
+    (λ e. rw e (omega (arith, length-append (digitsOf k (n / 10)) ((48 + n % 10) ∷ []), few-digits k (n / 10))))
+    (went (ltb n 10))
+
+pub short : (n : ℕ) → length (decimal n) ≤ 20
+unfolding decimal
+short n = few-digits 20 n
 
 -- from the least to the largest number of 64 bits
 pub examples : (decimal 0 ≡ word "0") × (decimal 10 ≡ word "10") × (decimal 36525 ≡ word "36525") × (decimal 18446744073709551615 ≡ word "18446744073709551615") × (spaced 205 ≡ word " 205")

@@ -74,3 +74,7 @@ puts-then {l} {m} {n} {a} {b} {at} {r} {s} p q =
 pub puts-whole : {l m a : List ℕ} {r : ℕ} → Puts l 0 a m r → length a ≤ length l → take r m ≡ a
 puts-whole {l} {m} {a} {r} p h =
     rw (p .text, sets-eq a l 0 (omega arith)) (take-at a (drop (0 + length a) l) r (omega (arith, p .place)))
+
+-- what is put determines the text and the place
+pub puts-unique : {l m n a : List ℕ} {at r s : ℕ} → Puts l at a m r → Puts l at a n s → (m ≡ n) × (r ≡ s)
+puts-unique p q = (p .text ∙ sym (q .text), p .place ∙ sym (q .place))

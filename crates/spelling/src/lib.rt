@@ -4,6 +4,8 @@ ghost use mathlib.Core.Path.{_≡_};
 ghost use Rattle.spelling.specs.Spelled.{decimal, spaced};
 ghost use Rattle.spelling.specs.Puts.{Puts};
 
+pub mod lines; // lines.rt: the lines of a report
+
 // The first n bytes, or all.
 pub fn front(s: &[u8], n: usize) -> &[u8]
     ensures { λ r. ⌜ now r ≡ take n (now (s .entry)) ⌝ }

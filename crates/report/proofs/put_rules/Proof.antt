@@ -5,7 +5,7 @@ use borrow.Author.Needs.{needs}
 use lib.ListN.{length}
 use Rattle.meaning.specs.Answer.{verdict}
 use Rattle.spelling.specs.Puts.{Puts}
-use Rattle.report.specs.Lines.{ruleLines}
+use Rattle.report.specs.Text.{ruleLines}
 use Rattle.report.proofs.Asking.{rule-here, judged-here}
 use Rattle.report.proofs.Texts.{rules-none, rules-more, rules-all}
 use Rattle.report.proofs.put_rules.Statement.{statement}

@@ -1,5 +1,4 @@
 -- `spelling::put` meets its contract: after i bytes, putting the others is what putting all was.
-use mathlib.Core.Path.{_≡_}
 use Prim.Native.Nat.{_-_}
 use borrow.Author.Needs.{needs}
 use lib.ListN.{length}

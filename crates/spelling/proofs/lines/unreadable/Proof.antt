@@ -1,10 +1,10 @@
--- `report::unreadable` meets its contract.
+-- `spelling::lines::unreadable` meets its contract.
 use Rattle.spelling.specs.Spelled.{word}
 use Rattle.spelling.proofs.Pieces.{puts-then}
-use Rattle.report.specs.Lines.{unreadableLine}
+use Rattle.spelling.specs.Lines.{unreadableLine}
 use borrow.Author.Needs.{needs}
-use Rattle.report.proofs.unreadable.Statement.{statement}
-use Rattle.report.proofs.unreadable.Tie as tie
+use Rattle.spelling.proofs.lines.unreadable.Statement.{statement}
+use Rattle.spelling.proofs.lines.unreadable.Tie as tie
 
 slice-aggregate-put : tie.Need-slice-aggregate-put
 slice-aggregate-put c = search needs

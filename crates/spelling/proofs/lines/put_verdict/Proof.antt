@@ -1,11 +1,11 @@
--- `report::put_verdict` meets its contract: each arm spells its own verdict.
+-- `spelling::lines::put_verdict` meets its contract: each arm spells its own verdict.
 use mathlib.Core.Path.{sym, ap}
 use Rattle.spelling.specs.Spelled.{word}
 use Rattle.spelling.proofs.Pieces.{puts-as, puts-then}
-use Rattle.report.specs.Lines.{told}
+use Rattle.spelling.specs.Lines.{told}
 use borrow.Author.Needs.{needs}
-use Rattle.report.proofs.put_verdict.Statement.{statement}
-use Rattle.report.proofs.put_verdict.Tie as tie
+use Rattle.spelling.proofs.lines.put_verdict.Statement.{statement}
+use Rattle.spelling.proofs.lines.put_verdict.Tie as tie
 
 enum-known-found : tie.Need-enum-known-found
 enum-known-found c = search needs

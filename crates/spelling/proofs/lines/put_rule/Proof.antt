@@ -1,10 +1,10 @@
--- `report::put_rule` meets its contract.
+-- `spelling::lines::put_rule` meets its contract.
 use Rattle.spelling.specs.Spelled.{word}
 use Rattle.spelling.proofs.Pieces.{puts-then}
-use Rattle.report.specs.Lines.{ruleLine}
+use Rattle.spelling.specs.Lines.{ruleLine}
 use borrow.Author.Needs.{needs}
-use Rattle.report.proofs.put_rule.Statement.{statement}
-use Rattle.report.proofs.put_rule.Tie as tie
+use Rattle.spelling.proofs.lines.put_rule.Statement.{statement}
+use Rattle.spelling.proofs.lines.put_rule.Tie as tie
 
 put-number-requires : tie.Need-put-number-requires
 put-number-requires c κs = search needs

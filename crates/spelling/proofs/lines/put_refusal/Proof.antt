@@ -1,10 +1,10 @@
--- `report::put_refusal` meets its contract.
+-- `spelling::lines::put_refusal` meets its contract.
 use Rattle.spelling.specs.Spelled.{word}
 use Rattle.spelling.proofs.Pieces.{puts-then}
-use Rattle.report.specs.Lines.{refusedLine}
+use Rattle.spelling.specs.Lines.{refusedLine}
 use borrow.Author.Needs.{needs}
-use Rattle.report.proofs.put_refusal.Statement.{statement}
-use Rattle.report.proofs.put_refusal.Tie as tie
+use Rattle.spelling.proofs.lines.put_refusal.Statement.{statement}
+use Rattle.spelling.proofs.lines.put_refusal.Tie as tie
 
 slice-aggregate-put : tie.Need-slice-aggregate-put
 slice-aggregate-put c = search needs
