@@ -66,3 +66,15 @@ day-zeros n d =
     (λ past. List·getD-eq-default (replicate {A = ℕ} n 0) 0 (omega (arith, length-replicate {A = ℕ} n 0)))
     (λ h. getD-replicate {A = ℕ} n d 0 0 h)
     (le-or-lt n d)
+
+-- fresh marks, one for each day, serve for the change days of a rule over an accepted document
+pub markable : {doc : Doc} {begins ends : List ℕ} → Periods doc begins ends → Checked doc → {own referred first : ℕ} → doc .size ≤ own → doc .size ≤ referred → first < 36526
+    → Datable begins ends (length (replicate {A = ℕ} 36526 0)) own × Datable begins ends (length (replicate {A = ℕ} 36526 0)) referred
+    × (first < length (replicate {A = ℕ} 36526 0)) × ((d : ℕ) → _≡_ {A = ℕ} (getD (replicate 36526 0) d 0) 0)
+markable w c a b f =
+    let all = length-replicate {A = ℕ} 36526 0 in
+    (checked-datable w c (omega (arith, all)) a, checked-datable w c (omega (arith, all)) b, omega (arith, f, all), day-zeros 36526)
+
+-- what fresh marks have room for
+pub each-day : {passes : ℕ → Bool} {days : List ℕ} → Marks passes (length (replicate {A = ℕ} 36526 0)) days → Marks passes 36526 days
+each-day m = rw length-replicate at m

@@ -55,7 +55,7 @@ fn mark_referred(reference: bool, read: &[u8], begin: &[u16], end: &[u16], days:
 
 // Marks the change days of a rule: `own` has the versions that it reads by itself, `referred` those of the rule that it refers to if it is
 // a reference, `first` is its period's first day. Cost: a look at each record, two for a reference.
-fn mark_changes(
+pub fn mark_changes(
     own: &[u8],
     reference: bool,
     referred: &[u8],
@@ -71,21 +71,4 @@ fn mark_changes(
     mark_referred(reference, referred, begin, end, days);
     let d = index(first);
     days[d] = 1;
-}
-
-// The change days of a rule, marked in marks of their own.
-pub fn change_marks(
-    own: &[u8],
-    reference: bool,
-    referred: &[u8],
-    begin: &[u16],
-    end: &[u16],
-    first: u16,
-) -> [u8; DAYS]
-    requires { ⌜ Datable (now begin) (now end) 36526 (length (now own)) × Datable (now begin) (now end) 36526 (length (now referred)) × (first < 36526) ⌝ }
-    ensures { λ x. ⌜ ((doc : Doc) → (q r : Rule) → Periods doc (now (begin .entry)) (now (end .entry)) → Marks (readsOwn doc r) (doc .size) (now (own .entry)) → reference ≡ isReference r → (reference ≡ true → Marks (readsOwn doc q) (doc .size) (now (referred .entry))) → first ≡ r .begin → Marks (isChange doc q r) 36526 x) ⌝ }
-{
-    let mut days = [0u8; DAYS];
-    mark_changes(own, reference, referred, begin, end, first, &mut days);
-    days
 }

@@ -3,7 +3,6 @@ use document::LIMIT;
 use meaning::Found;
 use meaning::Rule;
 use meaning::Verdict;
-use prepare::Prepared;
 ghost use mathlib.Core.Path.{_≡_};
 ghost use mathlib.Core.Bool.{true, _||_};
 ghost use Prim.Native.Nat.{_-_};
@@ -15,20 +14,21 @@ ghost use Rattle.meaning.specs.Day.{onDays};
 ghost use Rattle.meaning.proofs.Over.{over};
 ghost use Rattle.document.specs.Lent.{Tree, Values, Periods, Checked};
 ghost use Rattle.marks.specs.Marks.{marked};
+ghost use Rattle.prepare.specs.Rowed.{prepared};
 ghost use Rattle.values.specs.Represents.{Represents};
 ghost use Rattle.days.specs.Judging.{Walkable, Posed, offenderAlive, Settled};
 
 // The first of the marked days from `from` on and below `to` that has an offender, with its lowest one and how many days were looked at.
 // Cost: a look at each day of the stretch, and for each marked one a look for each selected version and each of its wanted field versions.
-fn walk(
+fn walk<'a>(
     start: usize,
-    next: &[u16],
-    last: &[u16],
-    lower: &[u16],
+    next: &'a [u16],
+    last: &'a [u16],
+    lower: &'a [u16],
     held_start: usize,
-    held_next: &[u16],
-    held_last: &[u16],
-    held_lower: &[u16],
+    held_next: &'a [u16],
+    held_last: &'a [u16],
+    held_lower: &'a [u16],
     begin: &[u16],
     end: &[u16],
     rep: &[u16],
@@ -74,31 +74,40 @@ fn walk(
     Verdict::Holds(looked)
 }
 
-// The verdict on a prepared rule. Cost: a look at each record for the change days, then the walk.
-fn judge(own: Prepared, held: Prepared, begin: &[u16], end: &[u16], rep: &[u16], r: Rule) -> Verdict
-    requires { ⌜ (ruleFields r ≡ true) × ((doc : Doc) × (q : Rule) × Settled doc q r own held (now begin) (now end) (now rep)) ⌝ }
-    ensures { λ x. ⌜ ((doc : Doc) → (q : Rule) → Settled doc q r own held (now (begin .entry)) (now (end .entry)) (now (rep .entry)) → isSequenced r ≡ true → x ≡ onDays doc q r) ⌝ }
+// The verdict on a prepared rule, and the rule that it refers to, or another one, prepared. Cost: a look at each record for the change days,
+// two for a reference; then the walk.
+fn judge<'a>(
+    start: usize,
+    next: &'a [u16],
+    last: &'a [u16],
+    lower: &'a [u16],
+    read: &'a [u8],
+    held_start: usize,
+    held_next: &'a [u16],
+    held_last: &'a [u16],
+    held_lower: &'a [u16],
+    held_read: &'a [u8],
+    begin: &[u16],
+    end: &[u16],
+    rep: &[u16],
+    r: Rule,
+) -> Verdict
+    requires { ⌜ (ruleFields r ≡ true) × ((doc : Doc) × (q : Rule) × Settled doc q r (prepared start (now next) (now last) (now lower) (now read)) (prepared «held_start» (now «held_next») (now «held_last») (now «held_lower») (now «held_read»)) (now begin) (now end) (now rep)) ⌝ }
+    ensures { λ x. ⌜ ((doc : Doc) → (q : Rule) → Settled doc q r (prepared start (now (next .entry)) (now (last .entry)) (now (lower .entry)) (now (read .entry))) (prepared «held_start» (now («held_next» .entry)) (now («held_last» .entry)) (now («held_lower» .entry)) (now («held_read» .entry))) (now (begin .entry)) (now (end .entry)) (now (rep .entry)) → isSequenced r ≡ true → x ≡ onDays doc q r) ⌝ }
 {
-    let read = own.read;
-    let held_read = held.read;
-    let days = changes::change_marks(&read, r.kind == 3, &held_read, begin, end, r.begin);
+    let mut days = [0u8; changes::DAYS];
+    changes::mark_changes(read, r.kind == 3, held_read, begin, end, r.begin, &mut days);
     let bounds = day::terms::terms(r);
-    let next = own.next;
-    let last = own.last;
-    let lower = own.lower;
-    let held_next = held.next;
-    let held_last = held.last;
-    let held_lower = held.lower;
     let mut stamp = [0u16; LIMIT];
     walk(
-        own.start,
-        &next,
-        &last,
-        &lower,
-        held.start,
-        &held_next,
-        &held_last,
-        &held_lower,
+        start,
+        next,
+        last,
+        lower,
+        held_start,
+        held_next,
+        held_last,
+        held_lower,
         begin,
         end,
         rep,
@@ -131,6 +140,39 @@ pub fn verdict(
     ensures { λ x. ⌜ ((doc : Doc) → (p : Rule) → Tree doc (now (kind .entry)) (now (name .entry)) (now (parent .entry)) → Values doc (now (kind .entry)) (now (vkind .entry)) (now (value .entry)) → Periods doc (now (begin .entry)) (now (end .entry)) → Represents doc (now (rep .entry)) → Checked doc → isSequenced r ≡ true → (isReference r ≡ true → p ≡ q) → x ≡ onDays doc p r) ⌝ }
 {
     let own = prepare::prepare(kind, vkind, name, parent, value, r);
-    let held = prepare::prepare_referred(kind, vkind, name, parent, value, own, q, r);
-    judge(own, held, begin, end, rep, r)
+    if r.kind != 3 {
+        return judge(
+            own.start,
+            &own.next,
+            &own.last,
+            &own.lower,
+            &own.read,
+            own.start,
+            &own.next,
+            &own.last,
+            &own.lower,
+            &own.read,
+            begin,
+            end,
+            rep,
+            r,
+        );
+    }
+    let held = prepare::prepare(kind, vkind, name, parent, value, q);
+    judge(
+        own.start,
+        &own.next,
+        &own.last,
+        &own.lower,
+        &own.read,
+        held.start,
+        &held.next,
+        &held.last,
+        &held.lower,
+        &held.read,
+        begin,
+        end,
+        rep,
+        r,
+    )
 }

@@ -54,7 +54,8 @@ fn changes_columns(
 {
     let own = prepare::reads::mark_read(kind, name, parent, r);
     let referred = read_referred(kind, name, parent, own, q, r);
-    let days = changes::change_marks(&own, r.kind == 3, &referred, begin, end, r.begin);
+    let mut days = [0u8; changes::DAYS];
+    changes::mark_changes(&own, r.kind == 3, &referred, begin, end, r.begin, &mut days);
     marks::store_marked(&days, r.begin as usize, r.end as usize, out)
 }
 

@@ -1,7 +1,7 @@
 -- `lists::turning::changes_columns` meets its contract: what the rule reads is marked, then its change days, and these are stored.
 use mathlib.Core.Path.{refl}
 use native.Mathlib.Omega.{arith}
-use Rattle.changes.proofs.Columns.{checked-datable}
+use Rattle.changes.proofs.Columns.{markable, each-day}
 use Rattle.changes.proofs.Spans.{steps-few, first-few, last-few, in-order}
 use Rattle.lists.proofs.Changing.{changes-answer, changes-lent}
 use borrow.Author.Needs.{needs}
@@ -18,18 +18,21 @@ read-referred-requires c κs =
     let p = c .before .before .before .before .before .before .before .pre in
     (λ k. steps-few _ (p .1 k), (p .2 .0, p .2 .1, p .2 .3))
 
-slice-aggregate-change-marks : tie.Need-slice-aggregate-change-marks
-slice-aggregate-change-marks c = search needs
+slice-aggregate-mark-changes : tie.Need-slice-aggregate-mark-changes
+slice-aggregate-mark-changes c = search needs
 
-slice-aggregate-change-marks-2 : tie.Need-slice-aggregate-change-marks-2
-slice-aggregate-change-marks-2 c = search needs
+slice-aggregate-mark-changes-2 : tie.Need-slice-aggregate-mark-changes-2
+slice-aggregate-mark-changes-2 c = search needs
 
-change-marks-requires : tie.Need-change-marks-requires
-change-marks-requires c κs =
-    let p = c .before .before .before .before .before .before .before .before .before .before .before .pre in
-    let own = c .before .before .before .before .mark-read .ensures (p .2 .0) (p .2 .1) in
+slice-aggregate-mark-changes-3 : tie.Need-slice-aggregate-mark-changes-3
+slice-aggregate-mark-changes-3 c = search needs
+
+mark-changes-requires : tie.Need-mark-changes-requires
+mark-changes-requires c κs =
+    let p = c .before .before .before .before .before .before .before .before .before .before .before .before .pre in
+    let own = c .before .before .before .before .before .mark-read .ensures (p .2 .0) (p .2 .1) in
     let few = p .2 .3 .few in
-    (checked-datable (p .2 .2) (p .2 .3) (omega arith) (own .room), checked-datable (p .2 .2) (p .2 .3) (omega arith) (search needs), first-few _ (p .0))
+    markable (p .2 .2) (p .2 .3) (own .room) (search needs) (first-few _ (p .0))
 
 slice-aggregate-store-marked : tie.Need-slice-aggregate-store-marked
 slice-aggregate-store-marked c = search needs
@@ -38,11 +41,11 @@ cast-store-marked : tie.Need-cast-store-marked
 cast-store-marked c = search needs
 
 cast-store-marked-2 : tie.Need-cast-store-marked-2
-cast-store-marked-2 c = (let p = c .before .before .before .before .before .before .before .before .before .before .before .before .before .before .before .pre in record { fits = omega (arith, last-few _ (p .0)) })
+cast-store-marked-2 c = search needs
 
 store-marked-requires : tie.Need-store-marked-requires
 store-marked-requires c κs =
-    let p = c .before .before .before .before .before .before .before .before .before .before .before .before .before .before .before .before .pre in
+    let p = c .before .before .before .before .before .before .before .before .before .before .before .before .before .before .before .before .before .before .pre in
     let few = last-few _ (p .0) in
     (search needs, omega (arith, few), in-order _ (p .0))
 
@@ -51,14 +54,14 @@ same-length c = search needs
 
 returns : tie.Need-returns
 returns c =
-    let a = c .before .before .before .before .before .before .before .before .before .before .before .before .before .before .before .before .before .before .before .args in
-    let f = c .before .before .before .before .before .before .before .before .before .before .before .before .before .before .before .before .before .before .before .pre .0 in
-    let own = c .before .before .before .before .before .before .before .before .before .before .before .before .mark-read .ensures in
-    let ref = c .before .before .before .before .before .before .before .before .before .before .before .read-referred .ensures in
-    let days = c .before .before .before .before .before .before .before .change-marks .ensures in
+    let a = c .before .before .before .before .before .before .before .before .before .before .before .before .before .before .before .before .before .before .before .before .before .args in
+    let f = c .before .before .before .before .before .before .before .before .before .before .before .before .before .before .before .before .before .before .before .before .before .pre .0 in
+    let own = c .before .before .before .before .before .before .before .before .before .before .before .before .before .before .mark-read .ensures in
+    let ref = c .before .before .before .before .before .before .before .before .before .before .before .before .before .read-referred .ensures in
+    let days = c .before .before .before .before .before .before .before .before .mark-changes .ensures in
     let s = c .before .before .store-marked in (
-      λ doc p t w k. changes-answer doc p (a .r) f _ (a .out .now) (days doc p (a .r) w (own doc t) refl (λ e. rw (k e) (ref doc t e)) refl) (s .ensures .0),
-      λ doc p t w k. changes-lent doc p (a .r) f _ (a .out .now) (days doc p (a .r) w (own doc t) refl (λ e. rw (k e) (ref doc t e)) refl) (s .result) _ (s .ensures .1),
+      λ doc p t w k. changes-answer doc p (a .r) f _ (a .out .now) (each-day (days doc p (a .r) w (own doc t) refl (λ e. rw (k e) (ref doc t e)) refl)) (s .ensures .0),
+      λ doc p t w k. changes-lent doc p (a .r) f _ (a .out .now) (each-day (days doc p (a .r) w (own doc t) refl (λ e. rw (k e) (ref doc t e)) refl)) (s .result) _ (s .ensures .1),
     )
 
 pub changes-columns-spec : {M : Type 1} → statement M
@@ -67,9 +70,10 @@ changes-columns-spec =
     (tie.spec
     mark-read-requires
     read-referred-requires
-    slice-aggregate-change-marks
-    slice-aggregate-change-marks-2
-    change-marks-requires
+    slice-aggregate-mark-changes
+    slice-aggregate-mark-changes-2
+    slice-aggregate-mark-changes-3
+    mark-changes-requires
     slice-aggregate-store-marked
     cast-store-marked
     cast-store-marked-2

@@ -1,22 +1,21 @@
 -- `windows::judging::judge` meets its contract: the change days are marked, the places fit the rule, and the walk over them gives the verdict.
 use mathlib.Core.Path.{refl}
-use native.Mathlib.Omega.{arith}
 use borrow.Author.Needs.{needs}
-use Rattle.changes.proofs.Columns.{checked-datable}
+use Rattle.changes.proofs.Columns.{markable, each-day}
 use Rattle.changes.proofs.Spans.{first-few}
 use Rattle.windows.proofs.Fitting.{going}
 use Rattle.windows.proofs.Settling.{settled-laid}
 use Rattle.windows.proofs.judging.judge.Statement.{statement}
 use Rattle.windows.proofs.judging.judge.Tie as tie
 
-slice-aggregate-change-marks : tie.Need-slice-aggregate-change-marks
-slice-aggregate-change-marks c = search (needs, c .before .before .before .before .before .before .before .before .good .1)
+slice-aggregate-mark-changes : tie.Need-slice-aggregate-mark-changes
+slice-aggregate-mark-changes c = search needs
 
-change-marks-requires : tie.Need-change-marks-requires
-change-marks-requires c κs =
-    let p = c .before .before .before .before .before .before .before .before .pre in
+mark-changes-requires : tie.Need-mark-changes-requires
+mark-changes-requires c κs =
+    let p = c .before .before .before .before .before .before .before .before .before .before .before .before .before .before .pre in
     let s = p .2 .2 in
-    (checked-datable (s .periods) (s .checked) (omega arith) (s .read .room), checked-datable (s .periods) (s .checked) (omega arith) (s .room), first-few _ (p .0))
+    markable (s .periods) (s .checked) (s .read .room) (s .room) (first-few _ (p .0))
 
 terms-requires : tie.Need-terms-requires
 terms-requires c κs = search needs
@@ -35,9 +34,9 @@ slice-aggregate-walk-clear c = search needs
 
 walk-clear-requires : tie.Need-walk-clear-requires
 walk-clear-requires c κs =
-    let p = c .before .before .before .before .before .before .before .before .before .before .before .before .before .before .before .before .before .pre in
+    let p = c .before .before .before .before .before .before .before .before .before .before .before .before .before .before .before .before .before .before .before .before .before .before .before .before .pre in
     let s = p .2 .2 in
-    let days = c .before .before .before .before .before .before .before .before .change-marks .ensures (p .2 .0) (p .2 .1) _ (s .periods) (s .read) refl (s .held-read) refl in (
+    let days = each-day (c .before .before .before .before .before .before .before .before .before .mark-changes .ensures (p .2 .0) (p .2 .1) _ (s .periods) (s .read) refl (s .held-read) refl) in (
       c .before .before .before .before .before .before .starts .ensures,
       going _ (p .0) (c .before .before .before .before .places-of .ensures) refl (days .room),
       (p .2 .0, p .2 .1, _, settled-laid _ s (p .0) (p .1) (c .before .before .before .before .before .before .before .terms .ensures), refl),
@@ -45,13 +44,13 @@ walk-clear-requires c κs =
 
 returns : tie.Need-returns
 returns c =
-    let p = c .before .before .before .before .before .before .before .before .before .before .before .before .before .before .before .before .before .before .pre in
-    let days = c .before .before .before .before .before .before .before .before .before .change-marks .ensures in
+    let p = c .before .before .before .before .before .before .before .before .before .before .before .before .before .before .before .before .before .before .before .before .before .before .before .before .before .pre in
+    let days = c .before .before .before .before .before .before .before .before .before .before .mark-changes .ensures in
     λ doc q s.
     c .walk-clear .ensures doc q _
     (settled-laid _ s (p .0) (p .1) (c .before .before .before .before .before .before .before .before .terms .ensures))
     refl
-    (days doc q _ (s .periods) (s .read) refl (s .held-read) refl)
+    (each-day (days doc q _ (s .periods) (s .read) refl (s .held-read) refl))
     (p .0)
     (c .before .before .before .before .before .places-of .ensures)
     refl
@@ -60,8 +59,8 @@ pub judge-spec : {M : Type 1} → statement M
 judge-spec =
     tie.close
     (tie.spec
-    slice-aggregate-change-marks
-    change-marks-requires
+    slice-aggregate-mark-changes
+    mark-changes-requires
     terms-requires
     starts-requires
     places-of-requires

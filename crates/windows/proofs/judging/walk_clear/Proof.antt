@@ -8,45 +8,15 @@ slice-aggregate-walk : tie.Need-slice-aggregate-walk
 slice-aggregate-walk c = search needs
 
 slice-aggregate-walk-2 : tie.Need-slice-aggregate-walk-2
-slice-aggregate-walk-2 c = search (needs, c .before .before .before .before .before .before .before .before .before .before .before .before .before .good .1)
-
-slice-aggregate-walk-3 : tie.Need-slice-aggregate-walk-3
-slice-aggregate-walk-3 c = search (needs, c .before .before .before .before .before .before .before .before .before .before .before .before .before .before .good .1)
-
-slice-aggregate-walk-4 : tie.Need-slice-aggregate-walk-4
-slice-aggregate-walk-4 c = search (needs, c .before .before .before .before .before .before .before .before .before .before .before .before .before .before .before .good .1)
-
-slice-aggregate-walk-5 : tie.Need-slice-aggregate-walk-5
-slice-aggregate-walk-5 c = search (needs, c .before .before .before .before .before .before .before .before .before .before .before .before .before .before .before .before .good .1)
-
-slice-aggregate-walk-6 : tie.Need-slice-aggregate-walk-6
-slice-aggregate-walk-6 c = search (needs, c .before .before .before .before .before .before .before .before .before .before .before .before .before .before .before .before .before .good .1)
-
-slice-aggregate-walk-7 : tie.Need-slice-aggregate-walk-7
-slice-aggregate-walk-7 c = search needs
-
-slice-aggregate-walk-8 : tie.Need-slice-aggregate-walk-8
-slice-aggregate-walk-8 c = search needs
+slice-aggregate-walk-2 c = search needs
 
 walk-requires : tie.Need-walk-requires
 walk-requires c κs =
-    let p = c .before .before .before .before .before .before .before .before .before .before .before .before .before .before .before .before .before .before .before .pre in
+    let p = c .before .before .before .before .before .before .before .before .before .before .before .before .before .pre in
     (p .0, p .1, lookable (p .2 .3) (p .2 .4))
 
 returns : tie.Need-returns
 returns c = c .before .before .walk .ensures
 
 pub walk-clear-spec : {M : Type 1} → statement M
-walk-clear-spec =
-    tie.close
-    (tie.spec
-    slice-aggregate-walk
-    slice-aggregate-walk-2
-    slice-aggregate-walk-3
-    slice-aggregate-walk-4
-    slice-aggregate-walk-5
-    slice-aggregate-walk-6
-    slice-aggregate-walk-7
-    slice-aggregate-walk-8
-    walk-requires
-    returns)
+walk-clear-spec = tie.close (tie.spec slice-aggregate-walk slice-aggregate-walk-2 walk-requires returns)
