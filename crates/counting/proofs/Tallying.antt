@@ -17,7 +17,7 @@ use Rattle.day.specs.Row.{Chain, stamped}
 use Rattle.day.proofs.Tallying.{count-last, past-count}
 use Rattle.counting.specs.Number.{Below, Weighed, numberIn}
 use Rattle.counting.proofs.Numbering.{count-none, count-more}
-use Rattle.counting.proofs.Weighing.{weighed-most}
+use Rattle.counting.proofs.Weighing.{weighed-absent, weighed-here, weighed-most}
 
 -- one thing where a test passes, another where it does not
 by-cases : (d : Bool) (a b c : ℕ) → (d ≡ true → c ≡ a) → (d ≡ false → c ≡ b) → c ≡ cond d a b
@@ -116,16 +116,29 @@ Walked p n rep distinct token past lower at c seen =
     (c + at ≤ n) × ((row : ℕ → Bool) → Chain row n past lower → Counted p n rep distinct token row at c seen)
 
 module _ (p : ℕ → Bool) (n : ℕ) (rep : ℕ → ℕ) (distinct : Bool) (token past : ℕ) (lower : List ℕ) (some : (row : ℕ → Bool) × Chain row n past lower) where
-  pub walked-start : (seen : List ℕ) → Below token seen → Walked p n rep distinct token past lower past 0 seen
-  walked-start seen fresh =
+  pub walked-start : (at : ℕ) → at ≡ past → (seen : List ℕ) → Below token seen → Walked p n rep distinct token past lower at 0 seen
+  walked-start at e seen fresh =
+      rw e
       (counted-start p n rep distinct token (some .0) past lower seen (some .1) fresh .low, λ row ch. counted-start p n rep distinct token row past lower seen ch fresh)
 
   module _ (at c : ℕ) (seen : List ℕ) (s : Walked p n rep distinct token past lower at c seen) (h : 0 < at) (next : ℕ) (step : next ≡ getD lower (at - 1) 0) where
     pub walked-less : next < at
     walked-less = counted-less p n rep distinct token (some .0) at c seen (s .1 (some .0) (some .1)) h past lower (some .1) next step
 
-    pub walked-step : (seen′ : List ℕ) (w : ℕ) → Weighed (p (at - 1)) (rep (at - 1)) distinct token seen seen′ w → rep (at - 1) < n → Walked p n rep distinct token past lower next (c + w) seen′
+    walked-step : (seen′ : List ℕ) (w : ℕ) → Weighed (p (at - 1)) (rep (at - 1)) distinct token seen seen′ w → rep (at - 1) < n → Walked p n rep distinct token past lower next (c + w) seen′
     walked-step seen′ w found small =
         let each : (row : ℕ → Bool) → Chain row n past lower → Counted p n rep distinct token row next (c + w) seen′ =
         λ row ch. counted-step p n rep distinct token row at c seen (s .1 row ch) h past lower ch next step seen′ w found small in
         (each (some .0) (some .1) .low, each)
+
+    -- the record below `at` is present and was weighed
+    pub walked-take : (seen′ : List ℕ) (w : ℕ) → p (at - 1) ≡ true → Weighed true (rep (at - 1)) distinct token seen seen′ w → rep (at - 1) < n → (c′ : ℕ) → c′ ≡ c + w
+        → (seen″ : List ℕ) → seen″ ≡ seen′ → Walked p n rep distinct token past lower next c′ seen″
+    walked-take seen′ w e found small c′ i seen″ j =
+        rw (i, j) (walked-step seen′ w (weighed-here (p (at - 1)) (rep (at - 1)) distinct token seen e seen′ w found) small)
+
+    -- it is not
+    pub walked-skip : p (at - 1) ≡ false → rep (at - 1) < n → (c′ : ℕ) → c′ ≡ c → (seen′ : List ℕ) → seen′ ≡ seen → Walked p n rep distinct token past lower next c′ seen′
+    walked-skip e small c′ i seen′ j =
+        let more : c′ ≡ c + 0 = omega arith in
+        rw (more, j) (walked-step seen 0 (weighed-absent (p (at - 1)) (rep (at - 1)) distinct token seen e) small)

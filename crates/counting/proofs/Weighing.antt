@@ -9,7 +9,7 @@ use lib.Dec.{eqb}
 use lib.ListN.{length, set}
 use borrow.Author.Tests.{eqb-true}
 use Rattle.meaning.proofs.Basics.{went, and-r}
-use Rattle.day.specs.Row.{stamped}
+use Rattle.day.specs.Row.{UpTo, stamped}
 use Rattle.day.proofs.Meeting.{set-stamped, set-up-to}
 use Rattle.counting.specs.Number.{Weighed}
 
@@ -22,20 +22,8 @@ module _ (here : Bool) (x : ℕ) (distinct : Bool) (token : ℕ) (seen : List �
   pub weighed-absent : here ≡ false → Weighed here x distinct token seen seen 0
   weighed-absent e = record { adds = rw e; stamps = λ y. rw e (sym (or-false (stamped token seen y))); up-to = λ h. h }
 
-  module _ (e : here ≡ true) (at : ℕ) (i : at ≡ x) where
-    pub weighed-again : distinct && stamped token seen at ≡ true → Weighed here x distinct token seen seen 0
-    weighed-again s =
-        let t : distinct && stamped token seen x ≡ true = rw (sym i) s in
-        record { adds = rw (e, t); stamps = λ y. rw e (stamped-again token seen x (and-r distinct _ t) y); up-to = λ h. h }
-
-    pub weighed-new : distinct && stamped token seen at ≡ false → at < length seen → Weighed here x distinct token seen (set seen at token) 1
-    weighed-new s room =
-        let t : distinct && stamped token seen x ≡ false = rw (sym i) s in
-        record {
-          adds = rw (e, t);
-          stamps = λ y. rw e (set-stamped token seen at room y ∙ ap (λ z. stamped token seen y || eqb z y) i);
-          up-to = set-up-to token seen at room;
-        }
+  pub weighed-here : here ≡ true → (after : List ℕ) (c : ℕ) → Weighed true x distinct token seen after c → Weighed here x distinct token seen after c
+  weighed-here e after c w = rw e w
 
   -- it is one at most
   pub weighed-most : (after : List ℕ) (c : ℕ) → Weighed here x distinct token seen after c → c ≤ 1
@@ -44,3 +32,27 @@ module _ (here : Bool) (x : ℕ) (distinct : Bool) (token : ℕ) (seen : List �
       one : (b : Bool) → cond b 1 0 ≤ 1
       one true = omega arith
       one false = omega arith
+
+-- no token is above the one given, where it was given
+pub up-to-here : (x : ℕ) (distinct : Bool) (token : ℕ) (seen after : List ℕ) (c : ℕ) → Weighed true x distinct token seen after c → UpTo token seen → (after′ : List ℕ) → after′ ≡ after → UpTo token after′
+up-to-here x distinct token seen after c w h after′ e = rw e (w .up-to h)
+
+-- and where it was not
+pub up-to-same : (token : ℕ) (seen : List ℕ) → UpTo token seen → (seen′ : List ℕ) → seen′ ≡ seen → UpTo token seen′
+up-to-same token seen h seen′ e = rw e h
+
+-- one that is present, represented by x, which the code has as `at`
+module _ (x : ℕ) (distinct : Bool) (token : ℕ) (seen : List ℕ) (at : ℕ) (i : at ≡ x) where
+  pub weighed-again : distinct && stamped token seen at ≡ true → Weighed true x distinct token seen seen 0
+  weighed-again s =
+      let t : distinct && stamped token seen x ≡ true = rw (sym i) s in
+      record { adds = rw t; stamps = λ y. stamped-again token seen x (and-r distinct _ t) y; up-to = λ h. h }
+
+  pub weighed-new : distinct && stamped token seen at ≡ false → at < length seen → Weighed true x distinct token seen (set seen at token) 1
+  weighed-new s room =
+      let t : distinct && stamped token seen x ≡ false = rw (sym i) s in
+      record {
+        adds = rw t;
+        stamps = λ y. set-stamped token seen at room y ∙ ap (λ z. stamped token seen y || eqb z y) i;
+        up-to = set-up-to token seen at room;
+      }

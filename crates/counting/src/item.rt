@@ -2,7 +2,7 @@
 use document::LIMIT;
 use numbers::index;
 ghost use mathlib.Core.Path.{_≡_};
-ghost use mathlib.Core.Bool.{Bool};
+ghost use mathlib.Core.Bool.{Bool, true};
 ghost use Prim.Native.Nat.{ℕ, _+_, _*_, _<_, _≤_};
 ghost use lib.ListN.{length, getD};
 ghost use Rattle.document.specs.Columns.{limit};
@@ -17,31 +17,29 @@ fn present(begin: &[u16], end: &[u16], from: u16, to: u16, i: usize) -> bool
     (begin[i] < to) & (from < end[i])
 }
 
-// How much field version f adds to the number: 1 where it is present and, if values are counted, its value has not the token yet. Its value
-// gets the token. Four looks.
-fn weigh(
-    begin: &[u16],
-    end: &[u16],
-    rep: &[u16],
-    distinct: bool,
-    from: u16,
-    to: u16,
-    f: usize,
-    token: u32,
-    seen: &mut [u32],
-) -> usize
-    requires { ⌜ (f < length (now begin)) × (length (now begin) ≤ length (now end)) × (length (now begin) ≤ length (now rep)) × (getD (now rep) f 0 < length (now seen)) ⌝ }
-    ensures { λ r. ⌜ Weighed (touches (now (begin .entry)) (now (end .entry)) from to f) (getD (now (rep .entry)) f 0) distinct token (now (seen .entry)) (now (seen .exit)) r ⌝ }
+// How much field version f, which is present, adds to the number: 1 or, if values are counted and its value has the token already, 0; its value
+// gets the token. Two looks.
+fn weigh(rep: &[u16], distinct: bool, f: usize, token: u32, seen: &mut [u32]) -> usize
+    requires { ⌜ (f < length (now rep)) × (getD (now rep) f 0 < length (now seen)) ⌝ }
+    ensures { λ r. ⌜ Weighed true (getD (now (rep .entry)) f 0) distinct token (now (seen .entry)) (now (seen .exit)) r ⌝ }
 {
-    if !present(begin, end, from, to, f) {
-        return 0;
-    }
     let x = index(rep[f]);
     if distinct & (seen[x] == token) {
         return 0;
     }
     seen[x] = token;
     1
+}
+
+// A number that is n at most: it is compared, though it changes nothing, so that a walk from it keeps to whole registers. One comparison.
+fn capped(past: usize, n: usize) -> usize
+    requires { ⌜ past ≤ n ⌝ }
+    ensures { λ r. ⌜ r ≡ past ⌝ }
+{
+    if n < past {
+        return n;
+    }
+    past
 }
 
 // The number of those that are present, or of their values, in the chain that ends one below `past`; no value has the token before.
@@ -63,10 +61,12 @@ fn tally(
     ensures tokens { λ r. ⌜ UpTo token (now (seen .exit)) ⌝ }
 {
     let mut count: usize = 0;
-    let mut at = past;
+    let mut at = capped(past, begin.len());
     while 0 < at {
-        let more = weigh(begin, end, rep, distinct, from, to, at - 1, token, seen);
-        count += more;
+        if present(begin, end, from, to, at - 1) {
+            let more = weigh(rep, distinct, at - 1, token, seen);
+            count += more;
+        }
         at = index(lower[at - 1]);
     }
     count

@@ -3,7 +3,7 @@ use crate::COUNTED;
 use crate::REFERRING;
 use numbers::index;
 ghost use mathlib.Core.Path.{_≡_};
-ghost use mathlib.Core.Bool.{Bool};
+ghost use mathlib.Core.Bool.{Bool, true};
 ghost use Prim.Native.Nat.{ℕ, _<_, _≤_};
 ghost use lib.ListN.{length, getD};
 ghost use Rattle.day.specs.Row.{lasts, Chain, Fits, Tallied, Met};
@@ -44,7 +44,34 @@ fn tally_row(begin: &[u16], end: &[u16], lower: &[u16], rep: &[u16], d: u16, pas
     }
 }
 
-// Whether the row of version v offends; by the mode, its only value is stamped. Cost: a look for each of the row.
+// Whether a row with so many present ones offends, x being the representative where it is one; by the mode, that value is stamped. It stands by
+// itself, so that a number that is known without a walk is judged with fewer tests. Two looks.
+fn count_offends(
+    count: usize,
+    x: usize,
+    mode: u8,
+    low: usize,
+    high: usize,
+    t: u16,
+    stamp: &mut [u16],
+) -> bool
+    requires { ⌜ (count ≡ 1 → x < length (now stamp)) ⌝ }
+    ensures { λ r. ⌜ ((p : ℕ → Bool) (n : ℕ) (rep : ℕ → ℕ) (row : ℕ → Bool) (v : ℕ) → p v ≡ true → Tallied p n row rep count x → Met p n rep mode low high row v t (now (stamp .entry)) (now (stamp .exit)) r) ⌝ }
+{
+    let out = (count < low) | (high < count);
+    if out | (mode == COUNTED) | (count != 1) {
+        return out;
+    }
+    let seen = stamp[x] == t;
+    if mode == REFERRING {
+        return !seen;
+    }
+    stamp[x] = t;
+    seen
+}
+
+// Whether the row of version v offends; by the mode, its only value is stamped. A version that is its own only field version
+// needs no walk. Cost: a look for each of the row.
 pub fn row_offends(
     last: &[u16],
     lower: &[u16],
@@ -66,16 +93,10 @@ pub fn row_offends(
     if !present(begin, end, d, v) {
         return false;
     }
-    let row = tally_row(begin, end, lower, rep, d, index(last[v]));
-    let out = (row.count < low) | (high < row.count);
-    if out | (mode == COUNTED) | (row.count != 1) {
-        return out;
+    let past = index(last[v]);
+    if (past == v + 1) & (lower[v] == 0) {
+        return count_offends(1, index(rep[v]), mode, low, high, t, stamp);
     }
-    let x = row.rep;
-    let seen = stamp[x] == t;
-    if mode == REFERRING {
-        return !seen;
-    }
-    stamp[x] = t;
-    seen
+    let row = tally_row(begin, end, lower, rep, d, past);
+    count_offends(row.count, row.rep, mode, low, high, t, stamp)
 }

@@ -5,16 +5,25 @@ use mathlib.Core.Bool.{Bool, true, false, _&&_, _||_, not, and-false, or-false}
 use mathlib.Core.List.{List}
 use Prim.Native.Nat.{ℕ, _+_, _-_, _≤_, _<_}
 use native.Mathlib.Omega.{arith}
+use lib.Bits.{bitOr, bitXor, and-le-l, and-le-r, or-add-and, xor-add-and}
 use lib.Dec.{leb, eqb}
 use lib.ListN.{length, getD, set, length-set}
 use lib.Seq.{getD-set-same, getD-set-other}
 use borrow.Author.Tests.{eqb-true, eqb-false, eq-eqb}
-use Rattle.meaning.proofs.Basics.{went, clear, both, and-l, and-r, or-r}
+use Rattle.meaning.proofs.Basics.{went, clear, both, or-r}
 use Rattle.day.specs.Ready.{Stamps}
 use Rattle.day.specs.Row.{Chain}
 use Rattle.sharing.specs.Row.{someOf, foreign, asks, lacking, Took, Claimed, Room}
 use Rattle.sharing.proofs.Descent.{Down, Steps, none-left, all-left, stepped, one-there, down-start, down-next}
 use Rattle.sharing.proofs.Laying.{Layed, layed-start, layed-end, layed-skip, layed-set}
+
+-- one number tells that two are the same and a third is 0
+pub same-and-none : (a b c : ℕ) → bitOr (bitXor a b) c ≡ 0 → (a ≡ b) × (c ≡ 0)
+same-and-none a b c e =
+    let x = bitXor a b in (
+      omega (arith, e, or-add-and x c, and-le-r x c, xor-add-and a b, and-le-l a b, and-le-r a b),
+      omega (arith, e, or-add-and x c, and-le-l x c),
+    )
 
 -- one entry more has the token
 module _ (mine : ℕ) (tokens : List ℕ) (k : ℕ) (room : k < length tokens) where
@@ -160,16 +169,10 @@ module _ (p : ℕ → Bool) (n : ℕ) (rep : ℕ → ℕ) (needy : Bool) (base m
       )
 
   -- a row of one record, which is present: what was done with its value
-  pub claimed-one : (row : ℕ → Bool) → Chain row n past lower → (v : ℕ) → (eqb past (v + 1) && eqb (getD lower v 0) 0) ≡ true → p v ≡ true → rep v < length tokens
+  pub claimed-one : (row : ℕ → Bool) → Chain row n past lower → (v : ℕ) → past ≡ v + 1 → getD lower v 0 ≡ 0 → p v ≡ true → rep v < length tokens
       → (tokens′ : List ℕ) (r : Bool) → Took base mine (rep v) tokens tokens′ r → Claimed p n rep row needy base mine tokens tokens′ r
-  claimed-one row ch v alone y room tokens′ r t = go r refl
+  claimed-one row ch v e l y room tokens′ r t = go r refl
     where
-      e : past ≡ v + 1
-      e = eqb-true past (v + 1) (and-l (eqb past (v + 1)) (eqb (getD lower v 0) 0) alone)
-
-      l : getD lower v 0 ≡ 0
-      l = eqb-true (getD lower v 0) 0 (and-r (eqb past (v + 1)) (eqb (getD lower v 0) 0) alone)
-
       v-is : v ≡ past - 1
       v-is = omega (arith, e)
 

@@ -2,14 +2,15 @@
 use mathlib.Core.Path.{_≡_, refl, sym, _∙_, ap}
 use mathlib.Core.Bool.{Bool, true, false, _&&_, _||_, cond, or-false}
 use mathlib.Core.List.{List}
-use Prim.Native.Nat.{ℕ, _≤_}
+use Prim.Native.Nat.{ℕ, _+_, _≤_, _<_}
 use native.Mathlib.Omega.{arith}
 use lib.Dec.{eqb}
 use lib.ListN.{length, getD}
 use borrow.Author.Tests.{eq-eqb}
-use Rattle.meaning.proofs.Basics.{or-r}
-use Rattle.day.specs.Row.{Fits, stamped}
-use Rattle.sharing.specs.Row.{foreign, asks, shows, lacking, Laid, Claimed, Marked, Met, Room}
+use Rattle.meaning.proofs.Basics.{clear, or-r}
+use Rattle.day.specs.Row.{Chain, Fits, stamped}
+use Rattle.sharing.specs.Row.{foreign, asks, shows, lacking, Laid, Took, Claimed, Marked, Met, Passed, Room}
+use Rattle.sharing.proofs.Claiming.{claimed-one}
 
 pub room-of : (n : ℕ) (last lower ends reps stamps : List ℕ) → Fits n last lower ends reps stamps → (column : List ℕ) → n ≤ length column → Room n lower ends reps column
 room-of n last lower ends reps stamps s column h =
@@ -74,4 +75,26 @@ module _ (p : ℕ → Bool) (n : ℕ) (rep : ℕ → ℕ) (row : ℕ → Bool) (
         answers = present-test (p v) _ answer e (s .answers);
         left = λ z y. rw e (s .left z y);
         below = s .below;
+      }
+
+-- a version that is passed, or at which the walk stands
+module _ (p : ℕ → Bool) (n : ℕ) (rep : ℕ → ℕ) (row : ℕ → Bool) (v base mine : ℕ) (tokens : List ℕ) where
+  -- it is not present
+  pub passed-absent : p v ≡ false → Passed p n rep row v base mine tokens tokens false
+  passed-absent e = record { stands = λ y. absurd (clear y refl); met = λ _ needy. met-absent p n rep row needy v base mine tokens e }
+
+  -- it is, and more than a look at its own value is needed
+  pub passed-not : p v ≡ true → Passed p n rep row v base mine tokens tokens true
+  passed-not e = record { stands = λ _. (e, refl); met = λ z. absurd (clear refl z) }
+
+  -- it is, and its row has its own value alone
+  pub passed-alone : p v ≡ true → (past : ℕ) (lower : List ℕ) → Chain row n past lower → past ≡ v + 1 → getD lower v 0 ≡ 0 → rep v < length tokens
+      → (mine′ : ℕ) → mine′ ≡ mine → (tokens′ : List ℕ) (answer : Bool) → Took base mine′ (rep v) tokens tokens′ answer → Passed p n rep row v base mine tokens tokens′ answer
+  passed-alone e past lower ch q l room mine′ i tokens′ answer t =
+      record {
+        stands = λ y. (e, t .kept y);
+        met =
+            λ z needy.
+            rw z at (met-claimed p n rep row needy v base mine tokens e mine′ i tokens′ answer
+            (claimed-one p n rep needy base mine′ past lower tokens row ch v q l e room tokens′ answer t));
       }

@@ -10,14 +10,10 @@ use Rattle.meaning.specs.Walk.{first}
 use Rattle.meaning.proofs.Basics.{le-or-lt}
 use Rattle.meaning.proofs.Walks.{first-at, first-none}
 use Rattle.marks.proofs.After.{Next}
+use Rattle.sharing.specs.Table.{Come}
 
 module _ (n : ℕ) (chosen : ℕ → Bool) where
-  -- the walk has come to record v, a chosen one or the end
-  pub record Come (v : ℕ) : Type 0 where
-    pub most : v ≤ n
-    pub is-chosen : v < n → chosen v ≡ true
-
-  pub come-to : (i v : ℕ) → Next chosen n i v → Come v
+  pub come-to : (i v : ℕ) → Next chosen n i v → Come n chosen v
   come-to i v to = record { most = to .to; is-chosen = to .passes }
 
   module _ (bad : ℕ → Bool) where

@@ -15,11 +15,12 @@ use Rattle.meaning.proofs.Basics.{went, le-or-lt, clear, tests-same, and-l, and
 use Rattle.meaning.proofs.Walks.{any-none, any-some, any-true, any-false}
 use Rattle.meaning.proofs.Loops.{any-last}
 use Rattle.marks.proofs.After.{Next}
+use Rattle.day.specs.Ready.{Stamps}
 use Rattle.day.specs.Row.{stamped}
 use Rattle.day.proofs.Skipping.{any-skips}
 use Rattle.sharing.specs.Row.{someOf, taken, foreign, asks, shows, lacking, Marked, Met}
-use Rattle.sharing.specs.Table.{holder, rival, rowShares, rowMisses}
-use Rattle.sharing.proofs.Passing.{Come, come-to, Clean, clean-start, clean-step, found-at, found-none}
+use Rattle.sharing.specs.Table.{holder, rival, rowShares, rowMisses, Come, Shared}
+use Rattle.sharing.proofs.Passing.{come-to, Clean, clean-start, clean-step, found-at, found-none}
 
 -- one of a row that is present, and has a representative that passes
 pub record One (p : ℕ → Bool) (n : ℕ) (rep : ℕ → ℕ) (row test : ℕ → Bool) : Type 0 where
@@ -43,6 +44,10 @@ module _ (p : ℕ → Bool) (n : ℕ) (rep : ℕ → ℕ) (row test : ℕ → Bo
   asks-one o =
       any-some (λ f. row f && (p f && test (rep f))) 0 n (o .at)
       (record { from = omega arith; below = omega (arith, o .low); passes = both (row (o .at)) _ (o .in-row) (both (p (o .at)) _ (o .here) (o .passes)) })
+
+-- what was not written tells what it told
+pub stamps-still : (n m : ℕ) (tokens tokens′ : List ℕ) → tokens′ ≡ tokens → Stamps n m tokens → Stamps n m tokens′
+stamps-still n m tokens tokens′ e s = rw e s
 
 -- an entry that is a token of this window or as it was
 taken-by : (base mine : ℕ) → base ≤ mine → (b : Bool) (k : ℕ) → leb base (cond b mine k) ≡ (leb base k || b)
@@ -105,14 +110,10 @@ module _ (p : ℕ → Bool) (n : ℕ) (rep : ℕ → ℕ) (chosen : ℕ → Bool
     unfolding rowShares
     bad-chosen u e = rw e
 
-    -- the walk has come to record v: no row below it offends, the tokens tell the values there, and each is that of every holder's class
-    pub record Shared (v : ℕ) (tokens : List ℕ) : Type 0 where
-      pub come : Come n chosen v
-      pub clean : Clean n chosen bad v
-      pub seen : Seen v (taken base tokens)
-      pub own : (y u : ℕ) → u < v → holds y u ≡ true → getD tokens y 0 ≡ class u
+    abbrev Walked : ℕ → List ℕ → Type 0
+    Walked = Shared p n rep chosen rows base class needy
 
-    pub shared-start : (start : ℕ) → Next chosen n 0 start → (tokens : List ℕ) → ((x : ℕ) → getD tokens x 0 < base) → Shared start tokens
+    pub shared-start : (start : ℕ) → Next chosen n 0 start → (tokens : List ℕ) → ((x : ℕ) → getD tokens x 0 < base) → Walked start tokens
     shared-start start to tokens low =
         record {
           come = come-to n chosen 0 start to;
@@ -121,10 +122,13 @@ module _ (p : ℕ → Bool) (n : ℕ) (rep : ℕ → ℕ) (chosen : ℕ → Bool
           own = λ y u h i. absurd (clear i (not-held y u (to .before u (omega arith) h)));
         }
 
-    pub shared-end : (v : ℕ) (tokens : List ℕ) → Shared v tokens → n ≤ v → Nothing ≡ first bad 0 n
+    pub shared-still : (v : ℕ) (tokens tokens′ : List ℕ) → tokens′ ≡ tokens → Walked v tokens → Walked v tokens′
+    shared-still v tokens tokens′ e s = rw e s
+
+    pub shared-end : (v : ℕ) (tokens : List ℕ) → Walked v tokens → n ≤ v → Nothing ≡ first bad 0 n
     shared-end v tokens s h = found-none n chosen bad v h (s .clean)
 
-    module _ (v : ℕ) (tokens : List ℕ) (s : Shared v tokens) where
+    module _ (v : ℕ) (tokens : List ℕ) (s : Walked v tokens) where
       -- a value with a token of another class is one that a rival holds
       rival-seen : asks p n rep (rows v) (foreign base tokens (class v)) ≡ true → any (rival p n rep chosen rows class v) 0 v ≡ true
       unfolding rival
@@ -205,7 +209,7 @@ module _ (p : ℕ → Bool) (n : ℕ) (rep : ℕ → ℕ) (chosen : ℕ → Bool
               (went (p v && shows p n rep (rows v) y)))
               (eq-or-lt-of-le l)
 
-          pub shared-step : base ≤ class v → (next : ℕ) → Next chosen n (suc v) next → Shared next tokens′
+          pub shared-step : base ≤ class v → (next : ℕ) → Next chosen n (suc v) next → Walked next tokens′
           shared-step l next to =
               record {
                 come = come-to n chosen (suc v) next to;

@@ -66,6 +66,11 @@ module _ (p : ℕ → Bool) (n : ℕ) (rep : ℕ → ℕ) (row : ℕ → Bool) w
     pub left : answer ≡ false → (y : ℕ) → getD tokens′ y 0 ≡ cond (p v && shows y) mine (getD tokens y 0)
     pub below : (m : ℕ) → mine < m → Stamps n m tokens → Stamps n m tokens′
 
+  -- what was done with record v in passing: it stands, present, and nothing was written; or its row, whatever is needed, was met and does not offend
+  pub record Passed (v base mine : ℕ) (tokens tokens′ : List ℕ) (answer : Bool) : Type 0 where
+    pub stands : answer ≡ true → (p v ≡ true) × (tokens′ ≡ tokens)
+    pub met : answer ≡ false → (needy : Bool) → Met needy v base mine tokens tokens′ false
+
 -- n entries or more in each list, and representatives that are record numbers
 pub record Room (n : ℕ) (lower ends reps column : List ℕ) : Type 0 where
   pub lower-room : n ≤ length lower

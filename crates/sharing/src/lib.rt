@@ -4,7 +4,7 @@ use meaning::Found;
 use numbers::index;
 ghost use mathlib.Core.Path.{_≡_};
 ghost use mathlib.Core.Logic.{_⊎_};
-ghost use mathlib.Core.Bool.{true, false};
+ghost use mathlib.Core.Bool.{Bool, true, false};
 ghost use Prim.Native.Nat.{ℕ, _+_, _*_, _<_, _≤_};
 ghost use lib.ListN.{length, getD};
 ghost use Rattle.meaning.specs.declared.Rule.{Rule};
@@ -19,9 +19,40 @@ ghost use Rattle.day.specs.Ready.{Ready, Referred, Stamps};
 ghost use Rattle.day.specs.Row.{UpTo, stamped};
 ghost use Rattle.groups.specs.Groups.{Groups};
 ghost use Rattle.sharing.specs.Row.{during};
-ghost use Rattle.sharing.specs.Table.{holder, rowMisses};
+ghost use Rattle.sharing.specs.Table.{holder, rowMisses, SharedTo};
 
 mod row; // row.rt: one row of a rule in a window
+
+// The first selected version from `at` on that is present and at which row::stops stops, or the end, so that the common look, at a version that is
+// absent or its own only field version, is a short one. Cost: a look for each selected version that is passed.
+fn pass_lone(
+    at: usize,
+    next: &[u16],
+    last: &[u16],
+    lower: &[u16],
+    begin: &[u16],
+    end: &[u16],
+    rep: &[u16],
+    group: &[u16],
+    from: u16,
+    to: u16,
+    base: u32,
+    seen: &mut [u32],
+) -> usize
+    requires { ⌜ ((doc : Doc) × (r : Rule) × (start : ℕ) × (needy : Bool) × Ready doc r start (now next) (now last) (now lower) (now begin) (now end) (now rep) × Groups doc (now group) × (doc .size ≤ limit) × SharedTo doc r (now begin) (now end) (now rep) (now group) from to base needy at (now seen) × Stamps (length (now begin)) (base + limit) (now seen) × (base ≤ 65535 * limit)) ⌝ }
+    ensures passed { λ x. ⌜ ((doc : Doc) (r : Rule) (start : ℕ) (needy : Bool) → Ready doc r start (now (next .entry)) (now (last .entry)) (now (lower .entry)) (now (begin .entry)) (now (end .entry)) (now (rep .entry)) → SharedTo doc r (now (begin .entry)) (now (end .entry)) (now (rep .entry)) (now (group .entry)) from to base needy at (now (seen .entry)) → SharedTo doc r (now (begin .entry)) (now (end .entry)) (now (rep .entry)) (now (group .entry)) from to base needy x (now (seen .exit))) ⌝ }
+    ensures there { λ x. ⌜ (at ≤ x) × (x < length (now (begin .entry)) → during (now (begin .entry)) (now (end .entry)) from to x ≡ true) ⌝ }
+    ensures tokens { λ x. ⌜ Stamps (length (now (begin .entry))) (base + limit) (now (seen .exit)) ⌝ }
+{
+    let mut v = at;
+    while v < begin.len() {
+        if row::stops(last, lower, begin, end, rep, group, from, to, v, base, seen) {
+            return v;
+        }
+        v = index(next[v]);
+    }
+    v
+}
 
 // The lowest version that offends a key, which needs a value, or a unique rule in the window from..to, its number being t; a token of window t
 // is t * LIMIT and a class, and every token is of an earlier window before, and of this or an earlier one after. Cost: a look for each selected version, and one for each field version with a value of one that is present.
@@ -45,7 +76,20 @@ pub fn shared_in(
     ensures tokens { λ x. ⌜ ((i : ℕ) → getD (now (seen .exit)) i 0 < (t + 1) * limit) ⌝ }
 {
     let base = (t as u32) * (LIMIT as u32);
-    let mut v = start;
+    let mut v = pass_lone(
+        start,
+        next,
+        last,
+        lower,
+        begin,
+        end,
+        rep,
+        group,
+        from,
+        to,
+        base,
+        seen,
+    );
     while v < begin.len() {
         if row::row_shares(
             last,
@@ -63,7 +107,20 @@ pub fn shared_in(
         ) {
             return Found::At(v);
         }
-        v = index(next[v]);
+        v = pass_lone(
+            index(next[v]),
+            next,
+            last,
+            lower,
+            begin,
+            end,
+            rep,
+            group,
+            from,
+            to,
+            base,
+            seen,
+        );
     }
     Found::Nothing
 }

@@ -1,12 +1,12 @@
 // One row of a rule in a window: what is asked of its present field versions, and what is written at their representatives.
 use numbers::index;
 ghost use mathlib.Core.Path.{_≡_};
-ghost use mathlib.Core.Bool.{Bool, _&&_, not};
+ghost use mathlib.Core.Bool.{Bool, true, _&&_, not};
 ghost use Prim.Native.Nat.{ℕ, _+_, _*_, _<_, _≤_};
 ghost use lib.ListN.{length, getD};
 ghost use Rattle.document.specs.Columns.{limit};
 ghost use Rattle.day.specs.Row.{Chain, Fits, stamped};
-ghost use Rattle.sharing.specs.Row.{during, asks, Laid, Took, Claimed, Marked, Met, Room};
+ghost use Rattle.sharing.specs.Row.{during, asks, Laid, Took, Claimed, Marked, Met, Passed, Room};
 
 // Whether version i shares a day with the window. Two looks.
 fn present(begin: &[u16], end: &[u16], from: u16, to: u16, i: usize) -> bool
@@ -170,9 +170,36 @@ fn token(base: u32, class: u16) -> u32
     base + (class as u32)
 }
 
-// Whether the row of version v lacks a value or has one with a token of another class, those of the window being `base` or more; where not, its
-// values have the token of its class. A version that is its own only field version needs no walk. Cost: a look for each of the row, none
-// where v is not present.
+// Whether version v is present and is not its own only field version, or has a value with a token of another class, those of the window being
+// `base` or more; where not, its value has the token of its class if it is present. The two tests of the row are one, for speed. Seven looks.
+pub fn stops(
+    last: &[u16],
+    lower: &[u16],
+    begin: &[u16],
+    end: &[u16],
+    rep: &[u16],
+    group: &[u16],
+    from: u16,
+    to: u16,
+    v: usize,
+    base: u32,
+    seen: &mut [u32],
+) -> bool
+    requires { ⌜ (v < length (now begin)) × (length (now begin) ≤ limit) × Fits (length (now begin)) (now last) (now lower) (now end) (now rep) (now seen) × (length (now begin) ≤ length (now group)) × (base ≤ 65535 * limit) ⌝ }
+    ensures { λ r. ⌜ ((row : ℕ → Bool) → Chain row (length (now (begin .entry))) (getD (now (last .entry)) v 0) (now (lower .entry)) → Passed (during (now (begin .entry)) (now (end .entry)) from to) (length (now (begin .entry))) (λ f. getD (now (rep .entry)) f 0) row v base (base + getD (now (group .entry)) v 0) (now (seen .entry)) (now (seen .exit)) r) ⌝ }
+{
+    if !present(begin, end, from, to, v) {
+        return false;
+    }
+    let past = (v + 1) as u16;
+    if ((last[v] ^ past) | lower[v]) != 0 {
+        return true;
+    }
+    take_value(rep, v, base, token(base, group[v]), seen)
+}
+
+// Whether the row of version v, which is present, lacks a value or has one with a token of another class, those of the window being `base` or
+// more; where not, its values have the token of its class. Cost: a look for each of the row.
 pub fn row_shares(
     last: &[u16],
     lower: &[u16],
@@ -187,18 +214,12 @@ pub fn row_shares(
     base: u32,
     seen: &mut [u32],
 ) -> bool
-    requires rooms { ⌜ (v < length (now begin)) × Fits (length (now begin)) (now last) (now lower) (now end) (now rep) (now seen) × (length (now begin) ≤ length (now group)) × (base ≤ 65535 * limit) ⌝ }
+    requires rooms { ⌜ (v < length (now begin)) × Fits (length (now begin)) (now last) (now lower) (now end) (now rep) (now seen) × (length (now begin) ≤ length (now group)) × (base ≤ 65535 * limit) × (during (now begin) (now end) from to v ≡ true) ⌝ }
     requires chain { ⌜ ((row : ℕ → Bool) × Chain row (length (now begin)) (getD (now last) v 0) (now lower)) ⌝ }
     ensures { λ r. ⌜ ((row : ℕ → Bool) → Chain row (length (now (begin .entry))) (getD (now (last .entry)) v 0) (now (lower .entry)) → Met (during (now (begin .entry)) (now (end .entry)) from to) (length (now (begin .entry))) (λ f. getD (now (rep .entry)) f 0) row needy v base (base + getD (now (group .entry)) v 0) (now (seen .entry)) (now (seen .exit)) r) ⌝ }
 {
-    if !present(begin, end, from, to, v) {
-        return false;
-    }
     let past = index(last[v]);
     let mine = token(base, group[v]);
-    if (past == v + 1) & (lower[v] == 0) {
-        return take_value(rep, v, base, mine, seen);
-    }
     claim(
         begin,
         end,

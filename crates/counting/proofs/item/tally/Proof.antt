@@ -1,13 +1,15 @@
 -- `counting::item::tally` meets its contract: for every row that the chain holds, the walk has come down to `at` and counted those above.
 use Prim.Native.Nat.{_-_, _<_}
-use mathlib.Core.Path.{_≡_, refl}
+use mathlib.Core.Path.{_≡_, refl, sym, ap, _∙_}
+use mathlib.Core.Logic.{⊎-elim}
 use native.Mathlib.Omega.{arith}
 use borrow.Author.Needs.{needs}
 use lib.ListN.{length, getD}
+use Rattle.document.proofs.Along.{past-low}
 use Rattle.day.specs.Row.{UpTo}
 use Rattle.counting.specs.Number.{touches}
-use Rattle.counting.proofs.Weighing.{weighed-most}
-use Rattle.counting.proofs.Tallying.{Walked, walked-start, walked-less, walked-step, counted-end}
+use Rattle.counting.proofs.Weighing.{weighed-most, up-to-here, up-to-same}
+use Rattle.counting.proofs.Tallying.{Walked, walked-start, walked-less, walked-take, walked-skip, counted-end}
 use Rattle.counting.proofs.item.tally.Statement.{statement}
 use Rattle.counting.proofs.item.tally.Tie as tie
 
@@ -17,21 +19,30 @@ Inv-loop begin end rep lower distinct from to past token seen₀ count₀ at₀ 
 abbrev μ-loop : tie.MeasureT-loop
 μ-loop begin end rep lower distinct from to past token seen₀ count₀ at₀ seen count at = at
 
+capped-requires : tie.Need-capped-requires Inv-loop μ-loop
+capped-requires c κs = let a = c .before .before .before .before .before in omega (arith, a .pre .1 .1 .last-is, past-low (a .pre .1 .0) (length (a .args .begin .now)))
+
 loop-holds : tie.Need-loop-holds Inv-loop μ-loop
 loop-holds c =
-    let p = c .before .before .before .before .before .pre in
-    (refl, λ y. omega (arith, p .2 y), walked-start _ _ _ _ _ _ _ (p .1) _ (p .2))
+    let p = c .before .before .before .before .before .before .pre in
+    (refl, λ y. omega (arith, p .2 y), walked-start _ _ _ _ _ _ _ (p .1) _ (c .capped .ensures) _ (p .2))
+
+sub-present : tie.Need-sub-present Inv-loop μ-loop
+sub-present c = search needs
+
+present-requires : tie.Need-present-requires Inv-loop μ-loop
+present-requires c κs = search needs
 
 sub-weigh : tie.Need-sub-weigh Inv-loop μ-loop
 sub-weigh c = search needs
 
 weigh-requires : tie.Need-weigh-requires Inv-loop μ-loop
 weigh-requires c κs =
-    let p = c .before .before .before .before .before .before .before .before .pre in
-    let s = c .before .before .loop in
-    let h = c .before .loop-test .taken in
-    let here : s .at - 1 < length (c .before .before .before .before .before .before .before .before .args .begin .now) = omega arith in
-    (here, p .0 .end-room, p .0 .rep-room, omega (arith, p .0 .rep-low (s .at - 1) here, p .0 .seen-room))
+    let a = c .before .before .before .before .before .before .before .before .before .before .before in
+    let s = c .before .before .before .before .loop in
+    let h = c .before .before .before .loop-test .taken in
+    let here : s .at - 1 < length (a .args .begin .now) = omega arith in
+    (omega (arith, a .pre .0 .rep-room), omega (arith, a .pre .0 .rep-low (s .at - 1) here, a .pre .0 .seen-room))
 
 add-count : tie.Need-add-count Inv-loop μ-loop
 add-count c = omega (arith, weighed-most _ _ _ _ _ _ _ (c .before .before .weigh .ensures))
@@ -50,18 +61,29 @@ index-requires c κs = search needs
 
 loop-less : tie.Need-loop-less Inv-loop μ-loop
 loop-less c =
-    let p = c .before .before .before .before .before .before .before .before .before .before .before .before .before .pre in
-    let s = c .before .before .before .before .before .before .before .loop in
-    walked-less _ _ _ _ _ _ _ (p .1) _ _ _ (s .inv .2) (c .before .before .before .before .before .before .loop-test .taken) _ (c .index .ensures)
+    let s = c .before .before .before .before .before .loop in
+    walked-less _ _ _ _ _ _ _ (c .before .before .before .before .before .before .before .before .before .before .before .before .pre .1) _ _ _ (s .inv .2) (c .before .before .before .before .loop-test .taken) _ (c .index .ensures)
 
 loop-again : tie.Need-loop-again Inv-loop μ-loop
 loop-again c =
-    let p = c .before .before .before .before .before .before .before .before .before .before .before .before .before .pre in
-    let s = c .before .before .before .before .before .before .before .loop in
-    let h = c .before .before .before .before .before .before .loop-test .taken in
-    let w = c .before .before .before .before .weigh .ensures in
-    let here : s .at - 1 < length (c .before .before .before .before .before .before .before .before .before .before .before .before .before .args .begin .now) = omega arith in
-    (search needs, w .up-to (s .inv .1), walked-step _ _ _ _ _ _ _ (p .1) _ _ _ (s .inv .2) h _ (c .index .ensures) _ _ w (p .0 .rep-low (s .at - 1) here))
+    let a = c .before .before .before .before .before .before .before .before .before .before .before .before in
+    let s = c .before .before .before .before .before .loop in
+    let h = c .before .before .before .before .loop-test .taken in
+    let is = c .before .before .before .present .ensures in
+    let here : s .at - 1 < length (a .args .begin .now) = omega arith in
+    let small = a .pre .0 .rep-low (s .at - 1) here in
+    ⊎-elim
+    (λ w. (
+      omega (arith, s .inv .0, w .2 .kept, ap length (w .5)),
+      up-to-here _ _ _ _ _ _ (w .2 .ensures) (s .inv .1) _ (w .5),
+      walked-take _ _ _ _ _ _ _ (a .pre .1) _ _ _ (s .inv .2) h _ (c .index .ensures) _ _ (sym is ∙ w .0 .taken) (w .2 .ensures) small _ (w .6) _ (w .5),
+    ))
+    (λ w. (
+      search needs,
+      up-to-same _ _ (s .inv .1) _ (w .1),
+      walked-skip _ _ _ _ _ _ _ (a .pre .1) _ _ _ (s .inv .2) h _ (c .index .ensures) (sym is ∙ w .0 .left) small _ (w .2) _ (w .1),
+    ))
+    (c .before .before .if1 .came)
 
 same-length : tie.Need-same-length Inv-loop μ-loop
 same-length c = search needs
@@ -77,7 +99,10 @@ tally-spec =
     (tie.spec
     Inv-loop
     μ-loop
+    capped-requires
     loop-holds
+    sub-present
+    present-requires
     sub-weigh
     weigh-requires
     add-count
