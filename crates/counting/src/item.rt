@@ -31,17 +31,6 @@ fn weigh(rep: &[u16], distinct: bool, f: usize, token: u32, seen: &mut [u32]) ->
     1
 }
 
-// A number that is n at most: it is compared, though it changes nothing, so that a walk from it keeps to whole registers. One comparison.
-fn capped(past: usize, n: usize) -> usize
-    requires { ⌜ past ≤ n ⌝ }
-    ensures { λ r. ⌜ r ≡ past ⌝ }
-{
-    if n < past {
-        return n;
-    }
-    past
-}
-
 // The number of those that are present, or of their values, in the chain that ends one below `past`; no value has the token before.
 // Cost: a look for each of the chain.
 fn tally(
@@ -61,7 +50,7 @@ fn tally(
     ensures tokens { λ r. ⌜ UpTo token (now (seen .exit)) ⌝ }
 {
     let mut count: usize = 0;
-    let mut at = capped(past, begin.len());
+    let mut at = past;
     while 0 < at {
         if present(begin, end, from, to, at - 1) {
             let more = weigh(rep, distinct, at - 1, token, seen);

@@ -19,13 +19,10 @@ Inv-loop begin end rep lower distinct from to past token seen₀ count₀ at₀ 
 abbrev μ-loop : tie.MeasureT-loop
 μ-loop begin end rep lower distinct from to past token seen₀ count₀ at₀ seen count at = at
 
-capped-requires : tie.Need-capped-requires Inv-loop μ-loop
-capped-requires c κs = let a = c .before .before .before .before .before in omega (arith, a .pre .1 .1 .last-is, past-low (a .pre .1 .0) (length (a .args .begin .now)))
-
 loop-holds : tie.Need-loop-holds Inv-loop μ-loop
 loop-holds c =
-    let p = c .before .before .before .before .before .before .pre in
-    (refl, λ y. omega (arith, p .2 y), walked-start _ _ _ _ _ _ _ (p .1) _ (c .capped .ensures) _ (p .2))
+    let p = c .before .before .before .before .before .pre in
+    (refl, λ y. omega (arith, p .2 y), walked-start _ _ _ _ _ _ _ (p .1) _ refl _ (p .2))
 
 sub-present : tie.Need-sub-present Inv-loop μ-loop
 sub-present c = search needs
@@ -38,7 +35,7 @@ sub-weigh c = search needs
 
 weigh-requires : tie.Need-weigh-requires Inv-loop μ-loop
 weigh-requires c κs =
-    let a = c .before .before .before .before .before .before .before .before .before .before .before in
+    let a = c .before .before .before .before .before .before .before .before .before .before in
     let s = c .before .before .before .before .loop in
     let h = c .before .before .before .loop-test .taken in
     let here : s .at - 1 < length (a .args .begin .now) = omega arith in
@@ -62,11 +59,11 @@ index-requires c κs = search needs
 loop-less : tie.Need-loop-less Inv-loop μ-loop
 loop-less c =
     let s = c .before .before .before .before .before .loop in
-    walked-less _ _ _ _ _ _ _ (c .before .before .before .before .before .before .before .before .before .before .before .before .pre .1) _ _ _ (s .inv .2) (c .before .before .before .before .loop-test .taken) _ (c .index .ensures)
+    walked-less _ _ _ _ _ _ _ (c .before .before .before .before .before .before .before .before .before .before .before .pre .1) _ _ _ (s .inv .2) (c .before .before .before .before .loop-test .taken) _ (c .index .ensures)
 
 loop-again : tie.Need-loop-again Inv-loop μ-loop
 loop-again c =
-    let a = c .before .before .before .before .before .before .before .before .before .before .before .before in
+    let a = c .before .before .before .before .before .before .before .before .before .before .before in
     let s = c .before .before .before .before .before .loop in
     let h = c .before .before .before .before .loop-test .taken in
     let is = c .before .before .before .present .ensures in
@@ -99,7 +96,6 @@ tally-spec =
     (tie.spec
     Inv-loop
     μ-loop
-    capped-requires
     loop-holds
     sub-present
     present-requires
