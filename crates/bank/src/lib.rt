@@ -46,25 +46,17 @@ fn judge(columns: Columns, n: usize, rules: &[u8], rule: usize) -> Verdict
     requires { ⌜ ((image : List ℕ) × Unpacks image columns × (columns .loaded ≡ Nodes n)) × (readRules (now rules) ≡ Accepted) × (rule < length (rulesOf (now rules))) ⌝ }
     ensures { λ r. ⌜ ((image : List ℕ) → Unpacks image columns → columns .loaded ≡ Nodes n → r ≡ judged (docOf image) (referredBy (rulesOf (now (rules .entry))) rule) (ruleAt (rulesOf (now (rules .entry))) rule)) ⌝ }
 {
-    let kind = columns.kind;
-    let vkind = columns.vkind;
-    let name = columns.name;
-    let parent = columns.parent;
-    let begin = columns.begin;
-    let end = columns.end;
-    let value = columns.value;
-    let item = columns.item;
-    let rep = judging::represent_front(n, &kind, &vkind, &value);
+    let rep = judging::represent_front(n, &columns.kind, &columns.vkind, &columns.value);
     judging::judge_rule(
         n,
-        &kind,
-        &vkind,
-        &name,
-        &parent,
-        &begin,
-        &end,
-        &value,
-        &item,
+        &columns.kind,
+        &columns.vkind,
+        &columns.name,
+        &columns.parent,
+        &columns.begin,
+        &columns.end,
+        &columns.value,
+        &columns.item,
         &rep,
         rules,
         rule,

@@ -17,7 +17,12 @@ ghost use Rattle.values.specs.Represents.{Represents};
 ghost use Rattle.judging.specs.Fronts.{Fronts};
 
 // A representative for each value in the first n entries of the columns, found once for all rules. Cost: as `values::represent`.
-pub fn represent_front(n: usize, kind: &[u8], vkind: &[u8], value: &[i32]) -> [u16; LIMIT]
+pub fn represent_front<'a>(
+    n: usize,
+    kind: &'a [u8],
+    vkind: &'a [u8],
+    value: &'a [i32],
+) -> [u16; LIMIT]
     requires { ⌜ (n ≤ length (now kind)) × (n ≤ length (now vkind)) × (n ≤ length (now value)) × ((doc : Doc) × Values doc (take (n - 0) (now kind)) (take (n - 0) (now vkind)) (take (n - 0) (now value)) × (doc .size ≤ limit)) ⌝ }
     ensures { λ r. ⌜ ((doc : Doc) → Values doc (take (n - 0) (now (kind .entry))) (take (n - 0) (now (vkind .entry))) (take (n - 0) (now (value .entry))) → Represents doc r) ⌝ }
 {
@@ -94,16 +99,16 @@ fn judge_front(
 
 // The verdict on rule k of an accepted table, over the first n entries of the columns, with a representative for each value.
 // Cost: reading the rule, and the rule that it refers to, from the image; then the verdict on days or in windows.
-pub fn judge_rule(
+pub fn judge_rule<'a>(
     n: usize,
-    kind: &[u8],
-    vkind: &[u8],
-    name: &[u16],
-    parent: &[u16],
-    begin: &[u16],
-    end: &[u16],
-    value: &[i32],
-    item: &[u32],
+    kind: &'a [u8],
+    vkind: &'a [u8],
+    name: &'a [u16],
+    parent: &'a [u16],
+    begin: &'a [u16],
+    end: &'a [u16],
+    value: &'a [i32],
+    item: &'a [u32],
     rep: &[u16],
     rules: &[u8],
     k: usize,

@@ -14,20 +14,20 @@ ghost use Rattle.report.specs.Opened.{Opened};
 ghost use Rattle.report.specs.Text.{ruleLines, reportOf};
 
 // A line for each rule. Cost: the verdict on each.
-fn put_rules(
+fn put_rules<'a>(
     text: &mut [u8],
     at: usize,
     nodes: &[u8],
     rules: &[u8],
     n: usize,
-    kind: &[u8],
-    vkind: &[u8],
-    name: &[u16],
-    parent: &[u16],
-    begin: &[u16],
-    end: &[u16],
-    value: &[i32],
-    item: &[u32],
+    kind: &'a [u8],
+    vkind: &'a [u8],
+    name: &'a [u16],
+    parent: &'a [u16],
+    begin: &'a [u16],
+    end: &'a [u16],
+    value: &'a [i32],
+    item: &'a [u32],
     rep: &[u16],
 ) -> usize
     requires { ⌜ Opened (now nodes) (now rules) n (now kind) (now vkind) (now name) (now parent) (now begin) (now end) (now value) (now item) (now rep) ⌝ }
@@ -63,29 +63,21 @@ fn put_table(text: &mut [u8], nodes: &[u8], rules: &[u8], columns: Columns, n: u
     ensures { λ r. ⌜ Puts (now (text .entry)) 0 (reportOf (now (nodes .entry)) (now (rules .entry))) (now (text .exit)) r ⌝ }
 {
     let at = spelling::lines::put_header(text);
-    let kind = columns.kind;
-    let vkind = columns.vkind;
-    let name = columns.name;
-    let parent = columns.parent;
-    let begin = columns.begin;
-    let end = columns.end;
-    let value = columns.value;
-    let item = columns.item;
-    let rep = judging::represent_front(n, &kind, &vkind, &value);
+    let rep = judging::represent_front(n, &columns.kind, &columns.vkind, &columns.value);
     put_rules(
         text,
         at,
         nodes,
         rules,
         n,
-        &kind,
-        &vkind,
-        &name,
-        &parent,
-        &begin,
-        &end,
-        &value,
-        &item,
+        &columns.kind,
+        &columns.vkind,
+        &columns.name,
+        &columns.parent,
+        &columns.begin,
+        &columns.end,
+        &columns.value,
+        &columns.item,
         &rep,
     )
 }

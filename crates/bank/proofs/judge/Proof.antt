@@ -4,75 +4,27 @@ use borrow.Author.Needs.{needs}
 use Rattle.bank.proofs.judge.Statement.{statement}
 use Rattle.bank.proofs.judge.Tie as tie
 
-slice-aggregate-represent-front : tie.Need-slice-aggregate-represent-front
-slice-aggregate-represent-front c = search needs
-
-slice-aggregate-represent-front-2 : tie.Need-slice-aggregate-represent-front-2
-slice-aggregate-represent-front-2 c = search needs
-
-slice-aggregate-represent-front-3 : tie.Need-slice-aggregate-represent-front-3
-slice-aggregate-represent-front-3 c = search needs
-
 represent-front-requires : tie.Need-represent-front-requires
 represent-front-requires c κs =
-    let p = c .before .before .before .before .before .before .before .before .before .before .before .before .pre .0 in
+    let p = c .before .before .before .before .before .before .before .before .pre .0 in
     let f = fronts (p .1) (p .2) in
     (f .kind, f .vkind, f .value, (f .doc, f .whole .values-held, f .whole .checked .few))
 
 slice-aggregate-judge-rule : tie.Need-slice-aggregate-judge-rule
 slice-aggregate-judge-rule c = search needs
 
-slice-aggregate-judge-rule-2 : tie.Need-slice-aggregate-judge-rule-2
-slice-aggregate-judge-rule-2 c = search needs
-
-slice-aggregate-judge-rule-3 : tie.Need-slice-aggregate-judge-rule-3
-slice-aggregate-judge-rule-3 c = search needs
-
-slice-aggregate-judge-rule-4 : tie.Need-slice-aggregate-judge-rule-4
-slice-aggregate-judge-rule-4 c = search needs
-
-slice-aggregate-judge-rule-5 : tie.Need-slice-aggregate-judge-rule-5
-slice-aggregate-judge-rule-5 c = search needs
-
-slice-aggregate-judge-rule-6 : tie.Need-slice-aggregate-judge-rule-6
-slice-aggregate-judge-rule-6 c = search needs
-
-slice-aggregate-judge-rule-7 : tie.Need-slice-aggregate-judge-rule-7
-slice-aggregate-judge-rule-7 c = search needs
-
-slice-aggregate-judge-rule-8 : tie.Need-slice-aggregate-judge-rule-8
-slice-aggregate-judge-rule-8 c = search (needs, c .before .before .before .before .before .before .before .before .before .before .before .before .before .before .before .before .before .before .before .before .before .good .0 .1 .1 .1 .1 .1 .1 .1 .1)
-
-slice-aggregate-judge-rule-9 : tie.Need-slice-aggregate-judge-rule-9
-slice-aggregate-judge-rule-9 c = search needs
-
 judge-rule-requires : tie.Need-judge-rule-requires
 judge-rule-requires c κs =
-    let p = c .before .before .before .before .before .before .before .before .before .before .before .before .before .before .before .before .before .before .before .before .before .before .pre in
+    let p = c .before .before .before .before .before .before .before .before .before .before .before .before .before .before .before .before .before .before .before .before .before .before .before .before .before .before .before .pre in
     let f = fronts (p .0 .1) (p .0 .2) in
-    ((f, c .before .before .before .before .before .before .before .before .before .represent-front .ensures (f .doc) (f .whole .values-held)), (p .1, p .2))
+    ((f, c .before .before .before .before .before .before .before .before .before .before .before .before .before .before .before .before .before .before .represent-front .ensures (f .doc) (f .whole .values-held)), (p .1, p .2))
 
 returns : tie.Need-returns
 returns c =
-    let reps = c .before .before .before .before .before .before .before .before .before .before .represent-front .ensures in
+    let reps = c .before .before .before .before .before .before .before .before .before .before .before .before .before .before .before .before .before .before .before .represent-front .ensures in
     λ image u e. let w = u .whole _ e in c .judge-rule .ensures _ w (reps _ (w .values-held))
 
 pub judge-spec : {M : Type 1} → statement M
 judge-spec =
     tie.close
-    (tie.spec
-    slice-aggregate-represent-front
-    slice-aggregate-represent-front-2
-    slice-aggregate-represent-front-3
-    represent-front-requires
-    slice-aggregate-judge-rule
-    slice-aggregate-judge-rule-2
-    slice-aggregate-judge-rule-3
-    slice-aggregate-judge-rule-4
-    slice-aggregate-judge-rule-5
-    slice-aggregate-judge-rule-6
-    slice-aggregate-judge-rule-7
-    slice-aggregate-judge-rule-8
-    slice-aggregate-judge-rule-9
-    judge-rule-requires
-    returns)
+    (tie.spec represent-front-requires slice-aggregate-judge-rule judge-rule-requires returns)

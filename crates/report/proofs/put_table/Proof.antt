@@ -10,79 +10,35 @@ use Rattle.report.proofs.put_table.Tie as tie
 put-header-requires : tie.Need-put-header-requires
 put-header-requires c κs = search needs
 
-slice-aggregate-represent-front : tie.Need-slice-aggregate-represent-front
-slice-aggregate-represent-front c = search needs
-
-slice-aggregate-represent-front-2 : tie.Need-slice-aggregate-represent-front-2
-slice-aggregate-represent-front-2 c = search needs
-
-slice-aggregate-represent-front-3 : tie.Need-slice-aggregate-represent-front-3
-slice-aggregate-represent-front-3 c = search needs
-
 represent-front-requires : tie.Need-represent-front-requires
 represent-front-requires c κs =
-    let p = c .before .before .before .before .before .before .before .before .before .before .before .before .before .before .before .before .before .before .pre in
+    let p = c .before .before .before .before .before .before .before .before .before .before .before .before .before .before .pre in
     let f = fronts (p .0) (p .1) in
     (f .kind, f .vkind, f .value, (f .doc, f .whole .values-held, f .whole .checked .few))
 
 slice-aggregate-put-rules : tie.Need-slice-aggregate-put-rules
 slice-aggregate-put-rules c = search needs
 
-slice-aggregate-put-rules-2 : tie.Need-slice-aggregate-put-rules-2
-slice-aggregate-put-rules-2 c = search needs
-
-slice-aggregate-put-rules-3 : tie.Need-slice-aggregate-put-rules-3
-slice-aggregate-put-rules-3 c = search (needs, c .before .before .before .before .before .before .before .before .before .before .before .before .before .before .before .before .before .before .before .before .before .before .before .good .1 .1 .1 .0 .1 .1 .1)
-
-slice-aggregate-put-rules-4 : tie.Need-slice-aggregate-put-rules-4
-slice-aggregate-put-rules-4 c = search (needs, c .before .before .before .before .before .before .before .before .before .before .before .before .before .before .before .before .before .before .before .before .before .before .before .before .good .1 .1 .1 .0 .1 .1 .1 .1)
-
-slice-aggregate-put-rules-5 : tie.Need-slice-aggregate-put-rules-5
-slice-aggregate-put-rules-5 c = search (needs, c .before .before .before .before .before .before .before .before .before .before .before .before .before .before .before .before .before .before .before .before .before .before .before .before .before .good .1 .1 .1 .0 .1 .1 .1 .1 .1)
-
-slice-aggregate-put-rules-6 : tie.Need-slice-aggregate-put-rules-6
-slice-aggregate-put-rules-6 c = search (needs, c .before .before .before .before .before .before .before .before .before .before .before .before .before .before .before .before .before .before .before .before .before .before .before .before .before .before .good .1 .1 .1 .0 .1 .1 .1 .1 .1 .1)
-
-slice-aggregate-put-rules-7 : tie.Need-slice-aggregate-put-rules-7
-slice-aggregate-put-rules-7 c = search (needs, c .before .before .before .before .before .before .before .before .before .before .before .before .before .before .before .before .before .before .before .before .before .before .before .before .before .before .before .good .1 .1 .1 .0 .1 .1 .1 .1 .1 .1 .1)
-
-slice-aggregate-put-rules-8 : tie.Need-slice-aggregate-put-rules-8
-slice-aggregate-put-rules-8 c = search (needs, c .before .before .before .before .before .before .before .before .before .before .before .before .before .before .before .before .before .before .before .before .before .before .before .before .before .before .before .before .good .1 .1 .1 .0 .1 .1 .1 .1 .1 .1 .1 .1)
-
-slice-aggregate-put-rules-9 : tie.Need-slice-aggregate-put-rules-9
-slice-aggregate-put-rules-9 c = search needs
-
 put-rules-requires : tie.Need-put-rules-requires
 put-rules-requires c κs =
-    let p = c .before .before .before .before .before .before .before .before .before .before .before .before .before .before .before .before .before .before .before .before .before .before .before .before .before .before .before .before .before .pre in
-    opened (p .0) (p .1) (p .2) (c .before .before .before .before .before .before .before .before .before .before .represent-front .ensures _ (p .0 .whole _ (p .1) .values-held))
+    let p = c .before .before .before .before .before .before .before .before .before .before .before .before .before .before .before .before .before .before .before .before .before .before .before .before .before .before .before .before .before .before .before .before .before .before .pre in
+    opened (p .0) (p .1) (p .2) (c .before .before .before .before .before .before .before .before .before .before .before .before .before .before .before .before .before .before .before .represent-front .ensures _ (p .0 .whole _ (p .1) .values-held))
 
 same-length : tie.Need-same-length
-same-length c = search needs
+same-length c = search (needs, c .before .before .before .before .before .before .before .before .before .before .before .before .before .before .before .before .before .before .before .before .before .before .before .before .before .before .before .before .before .before .before .before .put-header .kept, c .before .before .put-rules .kept)
 
 returns : tie.Need-returns
 returns c =
-    let p = c .before .before .before .before .before .before .before .before .before .before .before .before .before .before .before .before .before .before .before .before .before .before .before .before .before .before .before .before .before .before .before .before .pre in
-    puts-as (puts-then (c .before .before .before .before .before .before .before .before .before .before .before .before .before .before .before .before .before .before .before .before .before .before .before .before .before .before .before .put-header .ensures) (c .before .before .put-rules .ensures)) (accepted-both _ (p .0) (p .1) (p .2))
+    let p = c .before .before .before .before .before .before .before .before .before .before .before .before .before .before .before .before .before .before .before .before .before .before .before .before .before .before .before .before .before .before .before .before .before .before .before .before .before .pre in
+    puts-as (puts-then (c .before .before .before .before .before .before .before .before .before .before .before .before .before .before .before .before .before .before .before .before .before .before .before .before .before .before .before .before .before .before .before .before .put-header .ensures) (c .before .before .put-rules .ensures)) (accepted-both _ (p .0) (p .1) (p .2))
 
 pub put-table-spec : {M : Type 1} → statement M
 put-table-spec =
     tie.close
     (tie.spec
     put-header-requires
-    slice-aggregate-represent-front
-    slice-aggregate-represent-front-2
-    slice-aggregate-represent-front-3
     represent-front-requires
     slice-aggregate-put-rules
-    slice-aggregate-put-rules-2
-    slice-aggregate-put-rules-3
-    slice-aggregate-put-rules-4
-    slice-aggregate-put-rules-5
-    slice-aggregate-put-rules-6
-    slice-aggregate-put-rules-7
-    slice-aggregate-put-rules-8
-    slice-aggregate-put-rules-9
     put-rules-requires
     same-length
     returns)
