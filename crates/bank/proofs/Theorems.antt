@@ -22,7 +22,7 @@ use Rattle.meaning.specs.Walk.{count, pick}
 use Rattle.meaning.specs.Select.{reads}
 use Rattle.meaning.specs.Day.{alive, slice, offender, onDays}
 use Rattle.meaning.specs.Window.{windows}
-use Rattle.meaning.specs.Answer.{tellVerdict, tellListed, referredBy, judged, verdict, readVerdict, sliceAnswer, sliceLent, readSlice, changesOf, changesAnswer, changesLent, readChanges}
+use Rattle.meaning.specs.Answer.{referredBy, judged, verdict, readVerdict, sliceAnswer, sliceLent, readSlice, changesOf, changesAnswer, changesLent, readChanges}
 use Rattle.meaning.proofs.Unique as Unique
 use Rattle.meaning.proofs.Sound.{SoundNodes, SoundRules}
 use Rattle.meaning.proofs.Orders.{Earliest}

@@ -2,7 +2,7 @@
 use numbers::index;
 ghost use mathlib.Core.Path.{_≡_};
 ghost use mathlib.Core.Bool.{Bool, true, _&&_};
-ghost use Prim.Native.Nat.{ℕ, _≤_, _<_};
+ghost use Prim.Native.Nat.{ℕ, _<_};
 ghost use lib.ListN.{length, getD};
 ghost use Rattle.meaning.specs.declared.Rule.{Rule};
 ghost use Rattle.meaning.specs.Document.{Doc};

@@ -1,11 +1,11 @@
 -- The terms of each kind are what the kind's rule says.
-use mathlib.Core.Path.{_≡_, refl, sym, ap, _∙_}
+use mathlib.Core.Path.{_≡_, refl}
 use mathlib.Core.Bool.{true}
 use Prim.Native.Nat.{ℕ, _≤_}
 use native.Mathlib.Omega.{arith}
 use borrow.Author.Tests.{le-leb}
 use lib.IntN.{ℤ, pos, negsuc}
-use lib.Signed.{leZ, mag, _≤ℤ_}
+use lib.Signed.{mag, _≤ℤ_}
 use Rattle.meaning.specs.declared.Rule.{Rule}
 use Rattle.meaning.specs.Rules.{ruleFields}
 use Rattle.meaning.proofs.Says.{leZ-passes}

@@ -1,8 +1,8 @@
 -- From a rule prepared over an accepted document to its verdict: the walk may be taken, and what it answers is the verdict over every day.
-use mathlib.Core.Path.{_≡_, refl, sym, ap, ap₂, _∙_, fun-ext}
+use mathlib.Core.Path.{_≡_, sym, ap, ap₂, _∙_, fun-ext}
 use mathlib.Core.Bool.{Bool, true, _||_}
 use mathlib.Core.List.{List}
-use Prim.Native.Nat.{ℕ, _-_, _≤_, _<_}
+use Prim.Native.Nat.{ℕ, _-_, _≤_}
 use native.Mathlib.Omega.{arith}
 use lib.ListN.{length, getD}
 use Rattle.meaning.specs.declared.Found.{Found}
@@ -12,13 +12,13 @@ use Rattle.meaning.specs.Walk.{pick, first}
 use Rattle.meaning.specs.Document.{Doc}
 use Rattle.meaning.specs.Rules.{isKey, isUnique, isReference, isSequenced, ruleFields}
 use Rattle.meaning.specs.Select.{readsOwn}
-use Rattle.meaning.specs.Day.{alive, offends, offender, isChange, changeDays, onDays}
+use Rattle.meaning.specs.Day.{alive, offends, offender, isChange, onDays}
 use Rattle.meaning.proofs.Accepted.{accepted-sound}
 use Rattle.meaning.proofs.Slices.{present-alive}
 use Rattle.meaning.proofs.Over.{over}
 use Rattle.meaning.proofs.Changes.{verdict-changes}
 use Rattle.document.specs.Columns.{limit}
-use Rattle.document.specs.Lent.{Tree, Values, Periods, Checked}
+use Rattle.document.specs.Lent.{Periods, Checked}
 use Rattle.marks.specs.Marks.{marked, Marks}
 use Rattle.values.specs.Represents.{Represents}
 use Rattle.prepare.specs.declared.Prepared.{Prepared}
@@ -26,7 +26,7 @@ use Rattle.prepare.specs.Rows.{Rows}
 use Rattle.prepare.specs.Rowed.{Rowed}
 use Rattle.prepare.proofs.Valued.{valued-only}
 use Rattle.changes.proofs.Spans.{last-few, in-order, change-list}
-use Rattle.day.specs.Ready.{Ready, Referred, Terms}
+use Rattle.day.specs.Ready.{Ready, Terms}
 use Rattle.days.specs.Judging.{Walkable, Posed, offenderAlive, Settled}
 
 -- rows with the columns read along them

@@ -1,16 +1,14 @@
 -- The ways out of `change_days`: the node image's refusal, and what its document and the rule table give.
 use mathlib.Core.Path.{_≡_, refl, sym, ap, _∙_}
 use mathlib.Core.List.{List}
-use Prim.Native.Nat.{ℕ, _-_, _≤_}
-use native.Mathlib.Omega.{arith}
-use lib.ListN.{length, take}
+use Prim.Native.Nat.{ℕ, _-_}
+use lib.ListN.{take}
 use Rattle.meaning.specs.declared.Listed.{Listed}
-use Rattle.meaning.specs.declared.Listed.the-variants.{Stored, Refused}
+use Rattle.meaning.specs.declared.Listed.the-variants.{Refused}
 use Rattle.meaning.specs.declared.Reading.the-variants as reading
 use Rattle.meaning.specs.Document.{Doc}
-use Rattle.meaning.specs.Nodes.{docOf, readNodes}
+use Rattle.meaning.specs.Nodes.{docOf}
 use Rattle.meaning.specs.Answer.{storing, lentAfter, readChanges, changesOf, changesAnswer, changesLent}
-use Rattle.document.specs.Columns.{limit}
 use Rattle.document.specs.Lent.{Tree, Periods, Whole}
 use Rattle.nodes.specs.declared.Loaded.{Loaded}
 use Rattle.nodes.specs.declared.Loaded.the-variants.{Nodes, Refused as Unloaded}

@@ -1,8 +1,8 @@
 -- The days marked are the change days, so that what was stored of them is what is stored of these.
-use mathlib.Core.Path.{_≡_, refl, sym, ap, _∙_}
+use mathlib.Core.Path.{_≡_}
 use mathlib.Core.Bool.{true}
 use mathlib.Core.List.{List}
-use Prim.Native.Nat.{ℕ, _-_, _≤_, _<_}
+use Prim.Native.Nat.{ℕ, _-_}
 use Rattle.meaning.specs.declared.Rule.{Rule}
 use Rattle.meaning.specs.declared.Reading.the-variants.{Accepted}
 use Rattle.meaning.specs.declared.Listed.{Listed}

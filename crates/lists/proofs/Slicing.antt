@@ -6,8 +6,7 @@ use native.Mathlib.Omega.{arith}
 use lib.ListN.{length, take}
 use borrow.Author.Tests.{le-leb, lt-leb}
 use Rattle.meaning.specs.declared.Listed.{Listed}
-use Rattle.meaning.specs.declared.Listed.the-variants.{Stored, Refused}
-use Rattle.meaning.specs.declared.Reading.{Reading}
+use Rattle.meaning.specs.declared.Listed.the-variants.{Refused}
 use Rattle.meaning.specs.declared.Reading.the-variants as reading
 use Rattle.meaning.specs.Walk.{pick}
 use Rattle.meaning.specs.Document.{Doc}

@@ -1,19 +1,19 @@
 -- The ways out of the change days of a rule table: its refusal, no such rule, a rule that is not sequenced, and the list.
-use mathlib.Core.Path.{_≡_, refl, sym, ap, _∙_}
-use mathlib.Core.Bool.{Bool, true, false, _&&_}
+use mathlib.Core.Path.{_≡_, sym, ap, _∙_}
+use mathlib.Core.Bool.{true, false}
 use mathlib.Core.List.{List}
 use Prim.Native.Nat.{ℕ, _≤_, _<_}
 use native.Mathlib.Omega.{arith}
-use lib.Dec.{ltb, eqb}
+use lib.Dec.{eqb}
 use lib.ListN.{length}
 use borrow.Author.Tests.{lt-ltb, le-ltb, eq-eqb, ne-eqb}
 use Rattle.meaning.specs.declared.Rule.{Rule}
 use Rattle.meaning.specs.declared.Listed.{Listed}
-use Rattle.meaning.specs.declared.Listed.the-variants.{Stored, Refused}
+use Rattle.meaning.specs.declared.Listed.the-variants.{Refused}
 use Rattle.meaning.specs.declared.Reading.{Reading}
 use Rattle.meaning.specs.declared.Reading.the-variants as reading
 use Rattle.meaning.specs.Document.{Doc}
-use Rattle.meaning.specs.Rules.{isReference, isSequenced, ruleAt, rulesOf, readRules}
+use Rattle.meaning.specs.Rules.{isReference, ruleAt, rulesOf, readRules}
 use Rattle.meaning.specs.Day.{changeDays}
 use Rattle.meaning.specs.Answer.{referredBy, storing, lentAfter}
 use Rattle.rules.specs.Table.{Table}

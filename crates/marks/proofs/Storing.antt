@@ -1,19 +1,18 @@
 -- How marked numbers are counted and stored: what is left at each turn, and what the call then answers.
 use mathlib.Core.Path.{_≡_, refl, sym, ap, _∙_}
-use mathlib.Core.Bool.{Bool, true, false}
+use mathlib.Core.Bool.{Bool, true}
 use mathlib.Core.List.{List, [], _∷_, _++_}
-use Prim.Native.Nat.{ℕ, suc, _+_, _-_, _≤_, _<_}
+use Prim.Native.Nat.{ℕ, _+_, _-_, _≤_, _<_}
 use native.Mathlib.Nat.{zero-add}
 use native.Mathlib.Numerals.{add-one}
 use native.Mathlib.Omega.{arith}
 use lib.ListN.{length, drop, set, length-set}
 use lib.Seq.{sets, sets-eq}
 use borrow.Author.Tests.{le-leb, lt-leb}
-use Rattle.meaning.specs.declared.Listed.{Listed}
 use Rattle.meaning.specs.declared.Listed.the-variants.{Stored, Refused}
 use Rattle.meaning.specs.declared.Reading.the-variants.{Accepted}
 use Rattle.meaning.specs.Walk.{pick}
-use Rattle.meaning.specs.Answer.{storing, lentAfter}
+use Rattle.meaning.specs.Answer.{storing}
 use Rattle.meaning.proofs.Loops.{one-less}
 use Rattle.meaning.proofs.Picks.{pick-yes}
 use Rattle.marks.specs.Marks.{after}

@@ -1,25 +1,22 @@
 -- Questions to the three calls and their answers, and a quick way to work the answers out, proved to give the same.
-use mathlib.Core.Path.{_≡_, refl, ap, ap₂, sym, _∙_, fun-ext}
-use mathlib.Core.Logic.{⊎-elim}
-use mathlib.Core.Bool.{Bool, true, false, cond}
-use mathlib.Core.List.{List, [], _∷_, map}
+use mathlib.Core.Path.{_≡_, refl, ap, _∙_, fun-ext}
+use mathlib.Core.Bool.{cond}
+use mathlib.Core.List.{List, map}
 use Prim.Native.Nat.{ℕ}
-use lib.ListN.{length, replicate}
-use lib.Dec.{ltb}
+use lib.ListN.{replicate}
 use Rattle.meaning.specs.declared.Rule.{Rule}
 use Rattle.meaning.specs.declared.Reading.{Reading}
 use Rattle.meaning.specs.declared.Reading.the-variants.{Accepted, Refused}
 use Rattle.meaning.specs.declared.Verdict.{Verdict}
 use Rattle.meaning.specs.declared.Listed.{Listed}
-use Rattle.meaning.specs.Order.{need, andThen, inOrder}
+use Rattle.meaning.specs.Order.{inOrder}
 use Rattle.meaning.specs.Block.{nodeForm, imageTests}
 use Rattle.meaning.specs.Document.{Doc}
 use Rattle.meaning.specs.Nodes.{docOf, accept, readNodes}
-use Rattle.meaning.specs.Rules.{isSequenced, ruleAt, rulesOf, readRules}
-use Rattle.meaning.specs.Day.{offender, changeDays, onDays}
+use Rattle.meaning.specs.Rules.{isSequenced, ruleAt, rulesOf}
+use Rattle.meaning.specs.Day.{offender, changeDays}
 use Rattle.meaning.specs.Window.{inWindows}
 use Rattle.meaning.specs.Answer.{referredBy, judged, verdictAfter, readVerdict, verdict, storing, lentAfter, sliceAnswer, sliceLent, readChanges, changesOf, changesAnswer, changesLent}
-use Rattle.meaning.proofs.Basics.{went}
 use Rattle.meaning.proofs.Orders.{then-accepted}
 use Rattle.meaning.proofs.Says.{says}
 use Rattle.meaning.proofs.Sound.{Sound}

@@ -1,5 +1,5 @@
 -- Answers worked out from decoded images: the reading is done once for a bank, and each question goes by the document and the rules.
-use mathlib.Core.Path.{_≡_, refl, ap, ap₂, sym, _∙_, fun-ext}
+use mathlib.Core.Path.{_≡_, ap, _∙_, fun-ext}
 use mathlib.Core.Bool.{_&&_}
 use mathlib.Core.List.{List, map}
 use Prim.Native.Nat.{ℕ}

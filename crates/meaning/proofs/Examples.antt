@@ -1,6 +1,6 @@
 -- The 13 marked examples of document 01 in one statement, from the bytes of the two images; examples for the slips and the edges beside them.
 use mathlib.Core.Path.{_≡_, refl}
-use mathlib.Core.List.{List, [], _∷_, map}
+use mathlib.Core.List.{List, [], _∷_}
 use Prim.Native.Nat.{ℕ}
 use lib.IntN.{ℤ, pos, negsuc}
 use Rattle.meaning.specs.declared.Node.{Node}

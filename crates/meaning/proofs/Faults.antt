@@ -1,14 +1,13 @@
 -- What a verdict on days says: holds exactly where no record offends on any day, else the first day and its lowest offender.
 use mathlib.Core.Path.{_≡_, refl, ap, sym, _∙_}
 use mathlib.Core.Logic.{⊎-elim, _⊎_, inl, inr}
-use mathlib.Core.Bool.{Bool, true, false, false≢true}
-use Prim.Native.Nat.{ℕ, zero, suc, _+_, _≤_, _<_}
+use mathlib.Core.Bool.{true, false, false≢true}
+use Prim.Native.Nat.{ℕ, zero, suc, _≤_, _<_}
 use native.Mathlib.Omega.{arith}
 use lib.ListN.{length}
 use Rattle.meaning.specs.declared.Rule.{Rule}
 use Rattle.meaning.specs.declared.Found.{Found}
 use Rattle.meaning.specs.declared.Found.the-variants.{At, Nothing}
-use Rattle.meaning.specs.declared.Verdict.{Verdict}
 use Rattle.meaning.specs.declared.Verdict.the-variants.{Holds, Fails}
 use Rattle.meaning.specs.Walk.{first, found, place}
 use Rattle.meaning.specs.Document.{Doc}
@@ -16,10 +15,9 @@ use Rattle.meaning.specs.Day.{presentOn, offends, offender, isChange, ch
 use Rattle.meaning.proofs.Basics.{went, clear, le-or-lt}
 use Rattle.meaning.proofs.Sound.{Sound}
 use Rattle.meaning.proofs.Walks.{first-found, first-nothing, first-none}
-use Rattle.meaning.proofs.Picks.{In}
 use Rattle.meaning.proofs.Quiet.{same-as-before}
 use Rattle.meaning.proofs.Over.{nowhere}
-use Rattle.meaning.proofs.Changes.{days, At-place, in-place, ChangeDay, change-why, why-change, change-listed}
+use Rattle.meaning.proofs.Changes.{days, At-place, in-place, change-why, why-change, change-listed}
 
 -- version v offends on day d of the period, no lower record does, and no record on an earlier day of it
 pub record FirstFault (doc : Doc) (q r : Rule) (d v : ℕ) : Type 0 where

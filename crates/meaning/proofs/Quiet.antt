@@ -1,22 +1,20 @@
 -- Between change days nothing changes: where no version that the rule reads begins or ends, the same records offend, whatever the kind.
-use mathlib.Core.Path.{_≡_, refl, ap, ap₂, sym, _∙_, fun-ext}
-use mathlib.Core.Logic.{⊎-elim, _⊎_, inl, inr}
-use mathlib.Core.Bool.{Bool, true, false, _&&_, _||_}
-use Prim.Native.Nat.{ℕ, zero, suc, _+_, _-_, _≤_, _<_}
+use mathlib.Core.Path.{_≡_, ap, ap₂, sym, _∙_}
+use mathlib.Core.Logic.{⊎-elim, _⊎_}
+use mathlib.Core.Bool.{true, false, _&&_}
+use Prim.Native.Nat.{ℕ, suc, _-_, _≤_, _<_}
 use native.Mathlib.Omega.{arith}
 use lib.Dec.{leb, ltb, eqb}
-use borrow.Author.Tests.{leb-true, leb-false, ltb-true, ltb-false, le-leb, lt-leb, lt-ltb, le-ltb, eqb-true, eq-eqb}
+use borrow.Author.Tests.{leb-true, ltb-true, le-leb, lt-ltb, eq-eqb}
 use Rattle.meaning.specs.declared.Rule.{Rule}
-use Rattle.meaning.specs.declared.Found.{Found}
-use Rattle.meaning.specs.Walk.{any, first}
+use Rattle.meaning.specs.Walk.{first}
 use Rattle.meaning.specs.Document.{Doc, isVersion}
-use Rattle.meaning.specs.Rules.{isReference}
-use Rattle.meaning.specs.Select.{readsOwn, reads}
+use Rattle.meaning.specs.Select.{reads}
 use Rattle.meaning.specs.Day.{alive, presentOn, offends, offender, turns, isChange}
 use Rattle.meaning.proofs.Basics.{tests-same, le-or-lt, or-l, or-r, both, clear}
 use Rattle.meaning.proofs.Sound.{Sound}
 use Rattle.meaning.proofs.Slices.{present-alive}
-use Rattle.meaning.proofs.Walks.{any-false, any-some}
+use Rattle.meaning.proofs.Walks.{any-some}
 use Rattle.meaning.proofs.Selects.{reads-own, reads-referred, reads-version, version-here}
 use Rattle.meaning.proofs.Agree.{Agree, offends-agree}
 

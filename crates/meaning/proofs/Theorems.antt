@@ -1,7 +1,7 @@
 -- The theorems about the meaning of document 01, each statement to be read by itself; the proofs stand in the files cited.
 use mathlib.Core.Path.{_≡_, ap}
 use mathlib.Core.Logic.{_↔_, _⊎_}
-use mathlib.Core.Bool.{Bool, true, false}
+use mathlib.Core.Bool.{Bool}
 use mathlib.Core.List.{List, [], _∷_}
 use Prim.Native.Nat.{ℕ, _+_, _*_, _/_, _≤_, _<_}
 use native.Mathlib.Omega.{arith}

@@ -1,21 +1,18 @@
 -- What a verdict in windows says: holds exactly where no record offends in any window, else the first window's start and its lowest offender.
 use mathlib.Core.Path.{_≡_, refl, ap, sym, _∙_}
-use mathlib.Core.Logic.{⊎-elim, _⊎_, inl, inr}
-use mathlib.Core.Bool.{Bool, true, false, false≢true}
+use mathlib.Core.Bool.{true, false}
 use mathlib.Core.List.{List, [], _∷_, _++_}
-use Prim.Native.Nat.{ℕ, zero, suc, _+_, _≤_, _<_}
+use Prim.Native.Nat.{ℕ, suc, _+_, _<_}
 use native.Mathlib.Omega.{arith}
 use native.Mathlib.Nat.{add-zero}
 use lib.ListN.{length}
 use Rattle.meaning.specs.declared.Rule.{Rule}
 use Rattle.meaning.specs.declared.Found.{Found}
 use Rattle.meaning.specs.declared.Found.the-variants.{At, Nothing}
-use Rattle.meaning.specs.declared.Verdict.{Verdict}
 use Rattle.meaning.specs.declared.Verdict.the-variants.{Holds, Fails}
 use Rattle.meaning.specs.Walk.{first}
 use Rattle.meaning.specs.Document.{Doc}
 use Rattle.meaning.specs.Window.{Window, meets, offendsIn, offenderIn, windows, judge, inWindows}
-use Rattle.meaning.proofs.Basics.{clear}
 use Rattle.meaning.proofs.Walks.{first-found, first-nothing, first-none}
 
 -- nothing is found in any of the windows

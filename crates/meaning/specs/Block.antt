@@ -1,6 +1,6 @@
 -- Blocks of 512 bytes and the image they make up (01, "Blocks"): check, header, zeros, and refusals 1 to 4 or 21 to 24.
 use Prim.Native.Nat.{ℕ, suc, _+_, _-_, _*_, _/_, _%_, _^_}
-use mathlib.Core.Bool.{Bool, true, false, _&&_, cond}
+use mathlib.Core.Bool.{Bool, true, _&&_, cond}
 use mathlib.Core.List.{List, [], _∷_}
 use lib.Dec.{eqb, leb}
 use lib.ListN.{length, take, drop}

@@ -1,6 +1,6 @@
 -- Numbers in bytes, little-endian (01, "Blocks"): unsigned of one, two and four bytes, the signed reading of four, equality of signed numbers.
 use Prim.Native.Nat.{ℕ, _+_, _-_, _*_}
-use mathlib.Core.Bool.{Bool, true, false, cond}
+use mathlib.Core.Bool.{Bool, false, cond}
 use mathlib.Core.List.{List}
 use lib.IntN.{ℤ, pos, negsuc}
 use lib.Dec.{ltb, eqb}

@@ -1,6 +1,6 @@
 -- Presence on a day, the slice, the offenders of a day, change days and the verdict of a sequenced rule (01, "Meaning on one day").
 use Prim.Native.Nat.{ℕ, zero, suc, _-_}
-use mathlib.Core.Bool.{Bool, true, false, _&&_, _||_, not, cond}
+use mathlib.Core.Bool.{Bool, false, _&&_, _||_, not}
 use mathlib.Core.List.{List}
 use lib.IntN.{pos}
 use lib.Dec.{leb, ltb, eqb}

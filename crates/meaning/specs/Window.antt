@@ -1,6 +1,6 @@
 -- Windows, the offenders of a window, and the verdict of a non-sequenced rule (01, "Meaning in a window").
 use Prim.Native.Nat.{ℕ, zero, suc, _+_, _-_}
-use mathlib.Core.Bool.{Bool, true, false, _&&_, _||_, not, cond}
+use mathlib.Core.Bool.{Bool, false, _&&_, _||_, not, cond}
 use mathlib.Core.List.{List, [], _∷_}
 use lib.IntN.{pos, _-ℤ_}
 use lib.Dec.{leb, ltb, eqb}

@@ -17,7 +17,7 @@ use Rattle.meaning.proofs.Says.{says}
 use Rattle.meaning.proofs.Walks.{length-listed}
 use Rattle.nodes.specs.declared.Loaded.the-variants.{Nodes, Refused as Unloaded}
 use Rattle.nodes.specs.Filled.{filled, Roomy}
-use Rattle.nodes.specs.Loading.{roomy, loaded, loading}
+use Rattle.nodes.specs.Loading.{roomy, loading}
 use Rattle.nodes.proofs.Unpacked.{field-listed}
 
 module _ (image : List ℕ) {x : Reading} (ex : x ≡ inOrder (imageTests nodeForm image)) where

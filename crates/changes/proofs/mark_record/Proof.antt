@@ -1,6 +1,4 @@
 -- `changes::mark_record` meets its contract: a record that is not read adds nothing, one that is read its two days.
-use mathlib.Core.Path.{_≡_, sym, _∙_}
-use native.Mathlib.Omega.{arith}
 use lib.ListN.{length-set}
 use borrow.Author.Needs.{needs}
 use Rattle.changes.proofs.Turning.{added-none, added-both}

@@ -1,5 +1,5 @@
 -- `document::accept_columns` meets its contract: each way out is a stage of `accept`, and the record pass hands on what 7 asks.
-use mathlib.Core.Path.{_≡_, sym, _∙_}
+use mathlib.Core.Path.{sym, _∙_}
 use mathlib.Core.Bool.{true, false}
 use Rattle.meaning.specs.Document.{columns}
 use Rattle.document.proofs.Handed.{accepted-sound, sound-placing}

@@ -1,10 +1,10 @@
 -- `files::fill_from` meets its contract.
 use Rattle.files.proofs.Bounds.{bounded}
-use Prim.Native.Nat.{ℕ, suc, _+_, _≤_, _<_, _-_}
-use mathlib.Core.Path.{_≡_, refl, sym, ap, _∙_, subst}
+use Prim.Native.Nat.{_≤_, _-_}
+use mathlib.Core.Path.{_≡_}
 use borrow.Author.Needs.{needs}
 use native.Mathlib.Omega.{arith}
-use lib.ListN.{length, take, drop, length-append, length-take, length-drop}
+use lib.ListN.{length}
 use Rattle.files.specs.Within.{Within}
 use Rattle.files.proofs.fill_from.Statement.{statement}
 use Rattle.files.proofs.fill_from.Tie as tie

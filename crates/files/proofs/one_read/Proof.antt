@@ -1,9 +1,6 @@
 -- `files::one_read` meets its contract.
-use Prim.Native.Nat.{ℕ, suc, _+_, _≤_, _<_, _-_}
-use mathlib.Core.Path.{_≡_, refl, sym, ap, _∙_, subst}
+use Prim.Native.Nat.{_-_}
 use borrow.Author.Needs.{needs}
-use native.Mathlib.Omega.{arith}
-use lib.ListN.{length, take, drop, length-append, length-take, length-drop}
 use Rattle.files.specs.Within.{Within}
 use Rattle.files.proofs.one_read.Statement.{statement}
 use Rattle.files.proofs.one_read.Tie as tie

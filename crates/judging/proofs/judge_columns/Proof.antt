@@ -2,7 +2,6 @@
 use mathlib.Core.Path.{_∙_}
 use borrow.Author.Tests.{eq-eqb, ne-eqb}
 use Rattle.judging.proofs.Modes.{judged-days, judged-windows}
-use borrow.Author.Needs.{needs}
 use Rattle.judging.proofs.judge_columns.Statement.{statement}
 use Rattle.judging.proofs.judge_columns.Tie as tie
 

@@ -1,6 +1,5 @@
 -- `marks::next_marked` meets its contract: it is the first number, or the next one from the second on.
-use mathlib.Core.Path.{_≡_, sym, _∙_}
-use native.Mathlib.Omega.{arith}
+use mathlib.Core.Path.{sym, _∙_}
 use borrow.Author.Needs.{needs}
 use borrow.Author.Tests.{eq-eqb, ne-eqb}
 use Rattle.marks.proofs.After.{after-here, after-next, after-end}

@@ -1,6 +1,5 @@
 -- `marks::store_marked` meets its contract: it counts first, and stores where there is room.
 use mathlib.Core.Path.{refl}
-use native.Mathlib.Omega.{arith}
 use borrow.Author.Needs.{needs}
 use Rattle.marks.proofs.Storing.{too-short, long-enough}
 use Rattle.marks.proofs.store_marked.Statement.{statement}

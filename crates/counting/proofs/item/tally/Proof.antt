@@ -5,7 +5,6 @@ use mathlib.Core.Logic.{⊎-elim}
 use native.Mathlib.Omega.{arith}
 use borrow.Author.Needs.{needs}
 use lib.ListN.{length, getD}
-use Rattle.document.proofs.Along.{past-low}
 use Rattle.day.specs.Row.{UpTo}
 use Rattle.counting.specs.Number.{touches}
 use Rattle.counting.proofs.Weighing.{weighed-most, up-to-here, up-to-same}

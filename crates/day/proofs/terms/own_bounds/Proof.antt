@@ -1,7 +1,4 @@
 -- `day::terms::own_bounds` meets its contract.
-use Prim.Native.Nat.{_≤_}
-use mathlib.Core.Path.{_≡_}
-use lib.Signed.{mag}
 use Rattle.numbers.proofs.Callers.{signs}
 use Rattle.day.proofs.Termwise.{cardinality-terms}
 use borrow.Author.Needs.{needs}

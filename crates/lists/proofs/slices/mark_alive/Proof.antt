@@ -1,5 +1,5 @@
 -- `lists::slices::mark_alive` meets its contract: the records below i are marked where they are alive.
-use mathlib.Core.Path.{_≡_, refl, _∙_}
+use mathlib.Core.Path.{_≡_, refl}
 use Prim.Native.Nat.{_≤_, _<_, _-_}
 use native.Mathlib.Omega.{arith}
 use borrow.Author.Needs.{needs}

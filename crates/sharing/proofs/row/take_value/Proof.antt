@@ -1,6 +1,5 @@
 -- `sharing::row::take_value` meets its contract: another has the value, or it got the token.
 use mathlib.Core.Path.{refl}
-use native.Mathlib.Omega.{arith}
 use borrow.Author.Needs.{needs}
 use Rattle.sharing.proofs.Claiming.{took-none, took-it}
 use Rattle.sharing.proofs.row.take_value.Statement.{statement}
