@@ -3,6 +3,7 @@ use document::LIMIT;
 use meaning::Found;
 use meaning::Rule;
 use meaning::Verdict;
+use prepare::Prepared;
 ghost use mathlib.Core.Path.{_≡_};
 ghost use mathlib.Core.Bool.{true, _||_};
 ghost use Prim.Native.Nat.{_-_};
@@ -14,7 +15,6 @@ ghost use Rattle.meaning.specs.Day.{onDays};
 ghost use Rattle.meaning.proofs.Over.{over};
 ghost use Rattle.document.specs.Lent.{Tree, Values, Periods, Checked};
 ghost use Rattle.marks.specs.Marks.{marked};
-ghost use Rattle.prepare.specs.Rowed.{prepared};
 ghost use Rattle.values.specs.Represents.{Represents};
 ghost use Rattle.days.specs.Judging.{Walkable, Posed, offenderAlive, Settled};
 
@@ -74,40 +74,32 @@ fn walk<'a>(
     Verdict::Holds(looked)
 }
 
-// The verdict on a prepared rule, and the rule that it refers to, or another one, prepared. Cost: a look at each record for the change days,
-// two for a reference; then the walk.
-fn judge<'a>(
-    start: usize,
-    next: &'a [u16],
-    last: &'a [u16],
-    lower: &'a [u16],
-    read: &'a [u8],
-    held_start: usize,
-    held_next: &'a [u16],
-    held_last: &'a [u16],
-    held_lower: &'a [u16],
-    held_read: &'a [u8],
-    begin: &[u16],
-    end: &[u16],
-    rep: &[u16],
-    r: Rule,
-) -> Verdict
-    requires { ⌜ (ruleFields r ≡ true) × ((doc : Doc) × (q : Rule) × Settled doc q r (prepared start (now next) (now last) (now lower) (now read)) (prepared «held_start» (now «held_next») (now «held_last») (now «held_lower») (now «held_read»)) (now begin) (now end) (now rep)) ⌝ }
-    ensures { λ x. ⌜ ((doc : Doc) → (q : Rule) → Settled doc q r (prepared start (now (next .entry)) (now (last .entry)) (now (lower .entry)) (now (read .entry))) (prepared «held_start» (now («held_next» .entry)) (now («held_last» .entry)) (now («held_lower» .entry)) (now («held_read» .entry))) (now (begin .entry)) (now (end .entry)) (now (rep .entry)) → isSequenced r ≡ true → x ≡ onDays doc q r) ⌝ }
+// The verdict on a prepared rule. Cost: a look at each record for the change days, then the walk.
+fn judge(own: Prepared, held: Prepared, begin: &[u16], end: &[u16], rep: &[u16], r: Rule) -> Verdict
+    requires { ⌜ (ruleFields r ≡ true) × ((doc : Doc) × (q : Rule) × Settled doc q r own held (now begin) (now end) (now rep)) ⌝ }
+    ensures { λ x. ⌜ ((doc : Doc) → (q : Rule) → Settled doc q r own held (now (begin .entry)) (now (end .entry)) (now (rep .entry)) → isSequenced r ≡ true → x ≡ onDays doc q r) ⌝ }
 {
     let mut days = [0u8; changes::DAYS];
-    changes::mark_changes(read, r.kind == 3, held_read, begin, end, r.begin, &mut days);
+    changes::mark_changes(
+        &own.read,
+        r.kind == 3,
+        &held.read,
+        begin,
+        end,
+        r.begin,
+        &mut days,
+    );
     let bounds = day::terms::terms(r);
     let mut stamp = [0u16; LIMIT];
     walk(
-        start,
-        next,
-        last,
-        lower,
-        held_start,
-        held_next,
-        held_last,
-        held_lower,
+        own.start,
+        &own.next,
+        &own.last,
+        &own.lower,
+        held.start,
+        &held.next,
+        &held.last,
+        &held.lower,
         begin,
         end,
         rep,
@@ -140,39 +132,6 @@ pub fn verdict(
     ensures { λ x. ⌜ ((doc : Doc) → (p : Rule) → Tree doc (now (kind .entry)) (now (name .entry)) (now (parent .entry)) → Values doc (now (kind .entry)) (now (vkind .entry)) (now (value .entry)) → Periods doc (now (begin .entry)) (now (end .entry)) → Represents doc (now (rep .entry)) → Checked doc → isSequenced r ≡ true → (isReference r ≡ true → p ≡ q) → x ≡ onDays doc p r) ⌝ }
 {
     let own = prepare::prepare(kind, vkind, name, parent, value, r);
-    if r.kind != 3 {
-        return judge(
-            own.start,
-            &own.next,
-            &own.last,
-            &own.lower,
-            &own.read,
-            own.start,
-            &own.next,
-            &own.last,
-            &own.lower,
-            &own.read,
-            begin,
-            end,
-            rep,
-            r,
-        );
-    }
-    let held = prepare::prepare(kind, vkind, name, parent, value, q);
-    judge(
-        own.start,
-        &own.next,
-        &own.last,
-        &own.lower,
-        &own.read,
-        held.start,
-        &held.next,
-        &held.last,
-        &held.lower,
-        &held.read,
-        begin,
-        end,
-        rep,
-        r,
-    )
+    let held = prepare::prepare_referred(kind, vkind, name, parent, value, own, q, r);
+    judge(own, held, begin, end, rep, r)
 }

@@ -77,7 +77,8 @@ pub fn group(kind: &[u8], parent: &[u16], item: &[u32]) -> [u16; LIMIT]
 {
     let key = buckets(item);
     let items = chain(kind, &key, 1);
-    classes(kind, parent, item, &items.lower)
+    let twin = items.lower;
+    classes(kind, parent, item, &twin)
 }
 
 // The class of the version v, of n; LIMIT, which has no chain, where v is none. Cost: one look.

@@ -1,6 +1,4 @@
 -- What a prepared rule of a document holds.
-use mathlib.Core.List.{List}
-use Prim.Native.Nat.{ℕ}
 use Rattle.meaning.specs.declared.Rule.{Rule}
 use Rattle.meaning.specs.Document.{Doc}
 use Rattle.meaning.specs.Select.{readsOwn}
@@ -12,7 +10,3 @@ use Rattle.prepare.specs.Rows.{Rows}
 pub record Rowed (doc : Doc) (r : Rule) (own : Prepared) : Type 0 where
   pub rows : Rows doc r (own .start) (own .next) (own .last) (own .lower)
   pub read : Marks (readsOwn doc r) (doc .size) (own .read)
-
--- a prepared rule of the arrays that are lent of it
-abbrev pub prepared : ℕ → List ℕ → List ℕ → List ℕ → List ℕ → Prepared
-prepared start next last lower read = record { start = start; next = next; last = last; lower = lower; read = read }

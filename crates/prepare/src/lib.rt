@@ -1,13 +1,17 @@
 // A rule prepared over the columns of a document: what it selects, which versions it reads, and its rows.
 use document::LIMIT;
 use meaning::Rule;
+ghost use mathlib.Core.Path.{_≡_};
+ghost use mathlib.Core.Bool.{true};
 ghost use Prim.Native.Nat.{_≤_};
 ghost use Rattle.meaning.specs.declared.Rule.{Rule};
 ghost use Rattle.meaning.specs.Document.{Doc};
+ghost use Rattle.meaning.specs.Rules.{isReference};
 ghost use Rattle.meaning.specs.Select.{readsOwn};
 ghost use Rattle.document.specs.Lent.{Tree, Values, Checked};
 ghost use Rattle.marks.specs.Marks.{Marks};
 ghost use Rattle.prepare.specs.Rows.{Rows};
+ghost use Rattle.prepare.specs.Rowed.{Rowed};
 
 pub mod select; // select.rt: the versions that a rule selects
 pub mod fields; // fields.rt: the version to which each field version belongs
@@ -52,4 +56,25 @@ pub fn prepare(
         lower,
         read,
     }
+}
+
+// The rule that a reference refers to, prepared; the rule itself again if it is none.
+pub fn prepare_referred(
+    kind: &[u8],
+    vkind: &[u8],
+    name: &[u16],
+    parent: &[u16],
+    value: &[i32],
+    own: Prepared,
+    q: Rule,
+    r: Rule,
+) -> Prepared
+    requires { ⌜ (isReference r ≡ true → q .steps ≤ 8) × ((doc : Doc) × Tree doc (now kind) (now name) (now parent) × Values doc (now kind) (now vkind) (now value) × Checked doc) ⌝ }
+    ensures referred { λ x. ⌜ ((doc : Doc) → Tree doc (now (kind .entry)) (now (name .entry)) (now (parent .entry)) → Values doc (now (kind .entry)) (now (vkind .entry)) (now (value .entry)) → isReference r ≡ true → Rowed doc q x) ⌝ }
+    ensures some { λ x. ⌜ ((doc : Doc) → Tree doc (now (kind .entry)) (now (name .entry)) (now (parent .entry)) → Values doc (now (kind .entry)) (now (vkind .entry)) (now (value .entry)) → Rowed doc r own → ((p : Rule) × Rowed doc p x)) ⌝ }
+{
+    if r.kind != 3 {
+        return own;
+    }
+    prepare(kind, vkind, name, parent, value, q)
 }

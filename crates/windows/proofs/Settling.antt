@@ -12,6 +12,7 @@ use Rattle.meaning.specs.Rules.{isSequenced, ruleFields}
 use Rattle.prepare.specs.declared.Prepared.{Prepared}
 use Rattle.changes.proofs.Columns.{day-zeros}
 use Rattle.day.specs.Ready.{Terms}
+use Rattle.window.specs.declared.layout.Layout.{Layout}
 use Rattle.window.specs.Laid.{Laid}
 use Rattle.window.proofs.Laying.{laid}
 use Rattle.windows.specs.Walkable.{Lookable}
@@ -35,7 +36,7 @@ lookable {doc} {q} {r} l k =
     }
 
 -- what a rule is judged from, with its terms, is laid for the windows
-pub settled-laid : {doc : Doc} {q r : Rule} {read : List ℕ} {start : ℕ} {next last lower : List ℕ} {held : Prepared} {begins ends reps groups : List ℕ} (mode : ℕ) {low high : ℕ}
-    → Settled doc q r read start next last lower held begins ends reps groups → ruleFields r ≡ true → isSequenced r ≡ false → Terms r mode low high
-    → Laid doc q r start next last lower (held .start) (held .next) (held .last) (held .lower) begins ends reps groups (eqb (r .distinct) 1) low high
+pub settled-laid : {doc : Doc} {q r : Rule} {read : List ℕ} {lay : Layout} {held : Prepared} {begins ends reps groups : List ℕ} (mode : ℕ) {low high : ℕ}
+    → Settled doc q r read lay held begins ends reps groups → ruleFields r ≡ true → isSequenced r ≡ false → Terms r mode low high
+    → Laid doc q r (lay .start) (lay .next) (lay .last) (lay .lower) (held .start) (held .next) (held .last) (held .lower) begins ends reps groups (eqb (r .distinct) 1) low high
 settled-laid mode s f flat t = laid mode (s .spread) (s .referred) (s .periods) (s .represents) (s .classes) (s .checked) f flat t refl

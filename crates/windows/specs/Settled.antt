@@ -14,12 +14,13 @@ use Rattle.values.specs.Represents.{Represents}
 use Rattle.prepare.specs.declared.Prepared.{Prepared}
 use Rattle.prepare.specs.Rows.{wants, Rows}
 use Rattle.groups.specs.Groups.{Groups}
+use Rattle.window.specs.declared.layout.Layout.{Layout}
 use Rattle.window.specs.Spread.{Spread}
 
 -- the lists laid out for rule r over an accepted document, a mark on each version that it reads by itself, and if it is a reference the rows
 -- and the marks of the rule q that it refers to
-pub record Settled (doc : Doc) (q r : Rule) (marks : List ℕ) (start : ℕ) (next last lower : List ℕ) (held : Prepared) (begins ends reps groups : List ℕ) : Type 0 where
-  pub spread : Spread doc r start next last lower groups
+pub record Settled (doc : Doc) (q r : Rule) (marks : List ℕ) (laid : Layout) (held : Prepared) (begins ends reps groups : List ℕ) : Type 0 where
+  pub spread : Spread doc r (laid .start) (laid .next) (laid .last) (laid .lower) groups
   pub read : Marks (readsOwn doc r) (doc .size) marks
   pub room : doc .size ≤ length (held .read)
   pub referred : isReference r ≡ true → Rows doc q (held .start) (held .next) (held .last) (held .lower) × ((f : ℕ) → wants doc q f ≡ valued doc f)

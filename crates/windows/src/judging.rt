@@ -3,6 +3,8 @@ use crate::places::Places;
 use document::LIMIT;
 use meaning::Rule;
 use meaning::Verdict;
+use prepare::Prepared;
+use window::layout::Layout;
 ghost use mathlib.Core.Path.{_≡_};
 ghost use mathlib.Core.Bool.{true, false};
 ghost use Rattle.calendar.specs.Entries.{MonthTable};
@@ -12,26 +14,19 @@ ghost use Rattle.meaning.specs.Rules.{isSequenced, ruleFields};
 ghost use Rattle.meaning.specs.Day.{isChange};
 ghost use Rattle.meaning.specs.Window.{inWindows};
 ghost use Rattle.marks.specs.Marks.{Marks};
-ghost use Rattle.prepare.specs.Rowed.{prepared};
 ghost use Rattle.window.specs.Laid.{Laid};
 ghost use Rattle.windows.specs.Placing.{Placed};
 ghost use Rattle.windows.specs.Walkable.{Going};
 ghost use Rattle.windows.specs.Settled.{Settled};
 
 // The walk over the windows, with stamps and tokens of its own. Cost: the walk.
-fn walk_clear<'a>(
+fn walk_clear(
     table: &[u16; 1201],
     at: Places,
     close: usize,
     kind: u8,
-    start: usize,
-    next: &'a [u16],
-    last: &'a [u16],
-    lower: &'a [u16],
-    held_start: usize,
-    held_next: &'a [u16],
-    held_last: &'a [u16],
-    held_lower: &'a [u16],
+    laid: Layout,
+    held: Prepared,
     begin: &[u16],
     end: &[u16],
     rep: &[u16],
@@ -41,8 +36,8 @@ fn walk_clear<'a>(
     low: usize,
     high: usize,
 ) -> Verdict
-    requires { ⌜ MonthTable (now table) × Going (at .place) (at .span) (at .slide) close (now days) × ((doc : Doc) × (q : Rule) × (r : Rule) × Laid doc q r start (now next) (now last) (now lower) «held_start» (now «held_next») (now «held_last») (now «held_lower») (now begin) (now end) (now rep) (now group) distinct low high × (kind ≡ r .kind)) ⌝ }
-    ensures { λ x. ⌜ ((doc : Doc) → (q r : Rule) → Laid doc q r start (now (next .entry)) (now (last .entry)) (now (lower .entry)) «held_start» (now («held_next» .entry)) (now («held_last» .entry)) (now («held_lower» .entry)) (now (begin .entry)) (now (end .entry)) (now (rep .entry)) (now (group .entry)) distinct low high → kind ≡ r .kind → Marks (isChange doc q r) 36526 (now (days .entry)) → ruleFields r ≡ true → Placed r (at .monthly) (at .place) (at .span) (at .slide) → close ≡ r .end → x ≡ inWindows doc q r) ⌝ }
+    requires { ⌜ MonthTable (now table) × Going (at .place) (at .span) (at .slide) close (now days) × ((doc : Doc) × (q : Rule) × (r : Rule) × Laid doc q r (laid .start) (laid .next) (laid .last) (laid .lower) (held .start) (held .next) (held .last) (held .lower) (now begin) (now end) (now rep) (now group) distinct low high × (kind ≡ r .kind)) ⌝ }
+    ensures { λ x. ⌜ ((doc : Doc) → (q r : Rule) → Laid doc q r (laid .start) (laid .next) (laid .last) (laid .lower) (held .start) (held .next) (held .last) (held .lower) (now (begin .entry)) (now (end .entry)) (now (rep .entry)) (now (group .entry)) distinct low high → kind ≡ r .kind → Marks (isChange doc q r) 36526 (now (days .entry)) → ruleFields r ≡ true → Placed r (at .monthly) (at .place) (at .span) (at .slide) → close ≡ r .end → x ≡ inWindows doc q r) ⌝ }
 {
     let mut stamp = [0u16; LIMIT];
     let mut seen = [0u32; LIMIT];
@@ -54,14 +49,14 @@ fn walk_clear<'a>(
         at.slide,
         close,
         kind,
-        start,
-        next,
-        last,
-        lower,
-        held_start,
-        held_next,
-        held_last,
-        held_lower,
+        laid.start,
+        &laid.next,
+        &laid.last,
+        &laid.lower,
+        held.start,
+        &held.next,
+        &held.last,
+        &held.lower,
         begin,
         end,
         rep,
@@ -77,28 +72,29 @@ fn walk_clear<'a>(
 
 // The verdict on a rule whose lists are laid out; `read` has a mark on each version that it reads by itself, and `held` is the rule that it
 // refers to, prepared, if it is a reference. Cost: a look at each record for the change days, two for a reference; then the walk.
-pub fn judge<'a>(
-    read: &'a [u8],
-    start: usize,
-    next: &'a [u16],
-    last: &'a [u16],
-    lower: &'a [u16],
-    held_start: usize,
-    held_next: &'a [u16],
-    held_last: &'a [u16],
-    held_lower: &'a [u16],
-    held_read: &'a [u8],
+pub fn judge(
+    read: &[u8],
+    laid: Layout,
+    held: Prepared,
     begin: &[u16],
     end: &[u16],
     rep: &[u16],
     group: &[u16],
     r: Rule,
 ) -> Verdict
-    requires { ⌜ (ruleFields r ≡ true) × (isSequenced r ≡ false) × ((doc : Doc) × (q : Rule) × Settled doc q r (now read) start (now next) (now last) (now lower) (prepared «held_start» (now «held_next») (now «held_last») (now «held_lower») (now «held_read»)) (now begin) (now end) (now rep) (now group)) ⌝ }
-    ensures { λ x. ⌜ ((doc : Doc) → (q : Rule) → Settled doc q r (now (read .entry)) start (now (next .entry)) (now (last .entry)) (now (lower .entry)) (prepared «held_start» (now («held_next» .entry)) (now («held_last» .entry)) (now («held_lower» .entry)) (now («held_read» .entry))) (now (begin .entry)) (now (end .entry)) (now (rep .entry)) (now (group .entry)) → x ≡ inWindows doc q r) ⌝ }
+    requires { ⌜ (ruleFields r ≡ true) × (isSequenced r ≡ false) × ((doc : Doc) × (q : Rule) × Settled doc q r (now read) laid held (now begin) (now end) (now rep) (now group)) ⌝ }
+    ensures { λ x. ⌜ ((doc : Doc) → (q : Rule) → Settled doc q r (now (read .entry)) laid held (now (begin .entry)) (now (end .entry)) (now (rep .entry)) (now (group .entry)) → x ≡ inWindows doc q r) ⌝ }
 {
     let mut days = [0u8; changes::DAYS];
-    changes::mark_changes(read, r.kind == 3, held_read, begin, end, r.begin, &mut days);
+    changes::mark_changes(
+        read,
+        r.kind == 3,
+        &held.read,
+        begin,
+        end,
+        r.begin,
+        &mut days,
+    );
     let bounds = day::terms::terms(r);
     let table = calendar::starts();
     let at = crate::places::places_of(&table, r);
@@ -107,14 +103,8 @@ pub fn judge<'a>(
         at,
         r.end as usize,
         r.kind,
-        start,
-        next,
-        last,
-        lower,
-        held_start,
-        held_next,
-        held_last,
-        held_lower,
+        laid,
+        held,
         begin,
         end,
         rep,

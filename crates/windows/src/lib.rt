@@ -4,7 +4,6 @@ use meaning::Rule;
 use meaning::Verdict;
 ghost use mathlib.Core.Path.{_≡_};
 ghost use mathlib.Core.Bool.{true, false, _||_};
-ghost use Prim.Native.Nat.{_<_, _≤_};
 ghost use Rattle.calendar.specs.Entries.{MonthTable};
 ghost use Rattle.meaning.specs.declared.Rule.{Rule};
 ghost use Rattle.meaning.specs.Document.{Doc};
@@ -95,115 +94,6 @@ pub fn walk<'a>(
     Verdict::Holds(looked)
 }
 
-// The verdict on a key, a unique rule or a reference, which is worked out from its rows. Cost: preparing the rule, and the rule that it refers to;
-// then the walk over its windows.
-fn by_rows(
-    kind: &[u8],
-    vkind: &[u8],
-    name: &[u16],
-    parent: &[u16],
-    begin: &[u16],
-    end: &[u16],
-    value: &[i32],
-    item: &[u32],
-    rep: &[u16],
-    q: Rule,
-    r: Rule,
-) -> Verdict
-    requires { ⌜ (ruleFields r ≡ true) × (isSequenced r ≡ false) × (r .kind ≤ 3) × (isReference r ≡ true → (ruleFields q ≡ true) × ((isKey q || isUnique q) ≡ true)) × ((doc : Doc) × Tree doc (now kind) (now name) (now parent) × Values doc (now kind) (now vkind) (now value) × Periods doc (now begin) (now end) × Numbers doc (now kind) (now parent) (now item) × Represents doc (now rep) × Checked doc) ⌝ }
-    ensures { λ x. ⌜ ((doc : Doc) → (p : Rule) → Tree doc (now (kind .entry)) (now (name .entry)) (now (parent .entry)) → Values doc (now (kind .entry)) (now (vkind .entry)) (now (value .entry)) → Periods doc (now (begin .entry)) (now (end .entry)) → Numbers doc (now (kind .entry)) (now (parent .entry)) (now (item .entry)) → Represents doc (now (rep .entry)) → Checked doc → (isReference r ≡ true → p ≡ q) → x ≡ inWindows doc p r) ⌝ }
-{
-    let own = prepare::prepare(kind, vkind, name, parent, value, r);
-    let group = groups::group(kind, parent, item);
-    if r.kind != 3 {
-        return judging::judge(
-            &own.read,
-            own.start,
-            &own.next,
-            &own.last,
-            &own.lower,
-            own.start,
-            &own.next,
-            &own.last,
-            &own.lower,
-            &own.read,
-            begin,
-            end,
-            rep,
-            &group,
-            r,
-        );
-    }
-    let held = prepare::prepare(kind, vkind, name, parent, value, q);
-    judging::judge(
-        &own.read,
-        own.start,
-        &own.next,
-        &own.last,
-        &own.lower,
-        held.start,
-        &held.next,
-        &held.last,
-        &held.lower,
-        &held.read,
-        begin,
-        end,
-        rep,
-        &group,
-        r,
-    )
-}
-
-// The verdict on a cardinality or a datatype, which is worked out from its layout. Cost: preparing the rule; its layout; then the walk over its
-// windows.
-fn by_layout(
-    kind: &[u8],
-    vkind: &[u8],
-    name: &[u16],
-    parent: &[u16],
-    begin: &[u16],
-    end: &[u16],
-    value: &[i32],
-    item: &[u32],
-    rep: &[u16],
-    r: Rule,
-) -> Verdict
-    requires { ⌜ (ruleFields r ≡ true) × (isSequenced r ≡ false) × (3 < r .kind) × ((doc : Doc) × Tree doc (now kind) (now name) (now parent) × Values doc (now kind) (now vkind) (now value) × Periods doc (now begin) (now end) × Numbers doc (now kind) (now parent) (now item) × Represents doc (now rep) × Checked doc) ⌝ }
-    ensures { λ x. ⌜ ((doc : Doc) → (p : Rule) → Tree doc (now (kind .entry)) (now (name .entry)) (now (parent .entry)) → Values doc (now (kind .entry)) (now (vkind .entry)) (now (value .entry)) → Periods doc (now (begin .entry)) (now (end .entry)) → Numbers doc (now (kind .entry)) (now (parent .entry)) (now (item .entry)) → Represents doc (now (rep .entry)) → Checked doc → x ≡ inWindows doc p r) ⌝ }
-{
-    let own = prepare::prepare(kind, vkind, name, parent, value, r);
-    let group = groups::group(kind, parent, item);
-    let laid = window::layout::lay_out(
-        kind,
-        vkind,
-        name,
-        parent,
-        begin,
-        end,
-        value,
-        &group,
-        own,
-        r,
-    );
-    judging::judge(
-        &own.read,
-        laid.start,
-        &laid.next,
-        &laid.last,
-        &laid.lower,
-        own.start,
-        &own.next,
-        &own.last,
-        &own.lower,
-        &own.read,
-        begin,
-        end,
-        rep,
-        &group,
-        r,
-    )
-}
-
 // The verdict on the non-sequenced rule r, which refers to q if it is a reference, over an accepted document with a representative for each value.
 // Cost: preparing the rule, and the rule that it refers to; its layout; then the walk over its windows.
 pub fn verdict(
@@ -222,10 +112,10 @@ pub fn verdict(
     requires { ⌜ (ruleFields r ≡ true) × (isSequenced r ≡ false) × (isReference r ≡ true → (ruleFields q ≡ true) × ((isKey q || isUnique q) ≡ true)) × ((doc : Doc) × Tree doc (now kind) (now name) (now parent) × Values doc (now kind) (now vkind) (now value) × Periods doc (now begin) (now end) × Numbers doc (now kind) (now parent) (now item) × Represents doc (now rep) × Checked doc) ⌝ }
     ensures { λ x. ⌜ ((doc : Doc) → (p : Rule) → Tree doc (now (kind .entry)) (now (name .entry)) (now (parent .entry)) → Values doc (now (kind .entry)) (now (vkind .entry)) (now (value .entry)) → Periods doc (now (begin .entry)) (now (end .entry)) → Numbers doc (now (kind .entry)) (now (parent .entry)) (now (item .entry)) → Represents doc (now (rep .entry)) → Checked doc → (isReference r ≡ true → p ≡ q) → x ≡ inWindows doc p r) ⌝ }
 {
-    if 3 < r.kind {
-        return by_layout(kind, vkind, name, parent, begin, end, value, item, rep, r);
-    }
-    by_rows(
+    let own = prepare::prepare(kind, vkind, name, parent, value, r);
+    let held = prepare::prepare_referred(kind, vkind, name, parent, value, own, q, r);
+    let group = groups::group(kind, parent, item);
+    let laid = window::layout::lay_out(
         kind,
         vkind,
         name,
@@ -233,9 +123,9 @@ pub fn verdict(
         begin,
         end,
         value,
-        item,
-        rep,
-        q,
+        &group,
+        own,
         r,
-    )
+    );
+    judging::judge(&own.read, laid, held, begin, end, rep, &group, r)
 }

@@ -15,7 +15,7 @@ slice-aggregate-mark-changes c = search needs
 
 mark-changes-requires : tie.Need-mark-changes-requires
 mark-changes-requires c κs =
-    let p = c .before .before .before .before .before .before .before .before .before .before .before .before .before .pre in
+    let p = c .before .before .before .before .before .before .before .before .before .before .before .pre in
     let s = p .1 .2 in
     markable (s .periods) (s .checked) (s .rowed .read .room) (s .other-rowed .read .room) (first-few _ (p .0))
 
@@ -36,19 +36,19 @@ slice-aggregate-walk-2 c = search needs
 
 walk-requires : tie.Need-walk-requires
 walk-requires c κs =
-    let p = c .before .before .before .before .before .before .before .before .before .before .before .before .before .before .before .before .before .before .before .before .pre in
+    let p = c .before .before .before .before .before .before .before .before .before .before .before .before .before .before .before .before .before .before .before .before .before .before .before .before .before .before .before .before .before .before .before .before .pre in
     let s = p .1 .2 in
-    let days = each-day (c .before .before .before .before .before .before .mark-changes .ensures (p .1 .0) (p .1 .1) _ (s .periods) (s .rowed .read) refl (λ e. s .referred e .0 .read) refl) in
+    let days = each-day (c .before .before .before .before .before .before .before .before .before .before .before .before .before .before .before .before .before .before .before .before .mark-changes .ensures (p .1 .0) (p .1 .1) _ (s .periods) (s .rowed .read) refl (λ e. s .referred e .0 .read) refl) in
     walkable s (p .0) (days .room) (omega (arith, length-replicate {A = ℕ} 1000 0)) (day-zeros 1000)
 
 returns : tie.Need-returns
 returns c =
-    let f = c .before .before .before .before .before .before .before .before .before .before .before .before .before .before .before .before .before .before .before .before .before .before .pre .0 in
-    let days = c .before .before .before .before .before .before .before .before .mark-changes .ensures in
+    let f = c .before .before .before .before .before .before .before .before .before .before .before .before .before .before .before .before .before .before .before .before .before .before .before .before .before .before .before .before .before .before .before .before .before .before .pre .0 in
+    let days = c .before .before .before .before .before .before .before .before .before .before .before .before .before .before .before .before .before .before .before .before .before .before .mark-changes .ensures in
     λ doc q s k.
     judged s f k
     (each-day (days doc q _ (s .periods) (s .rowed .read) refl (λ e. s .referred e .0 .read) refl))
-    (c .before .walk .ensures doc q _ (posed s f k (c .before .before .before .before .before .before .terms .ensures)))
+    (c .before .walk .ensures doc q _ (posed s f k (c .before .before .before .before .before .before .before .before .before .before .before .before .before .before .before .before .before .before .before .before .terms .ensures)))
 
 pub judge-spec : {M : Type 1} → statement M
 judge-spec =

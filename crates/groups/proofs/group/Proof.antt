@@ -16,19 +16,29 @@ slice-aggregate-chain c = search needs
 chain-requires : tie.Need-chain-requires
 chain-requires c κs = search needs
 
+slice-aggregate-classes : tie.Need-slice-aggregate-classes
+slice-aggregate-classes c = search needs
+
 classes-requires : tie.Need-classes-requires
 classes-requires c κs =
-    let a = c .before .before .before .before .before .before .before .before .before .args in
-    let p = c .before .before .before .before .before .before .before .before .before .pre in
+    let a = c .before .before .before .before .before .before .before .before .args in
+    let p = c .before .before .before .before .before .before .before .before .pre in
     let n = nested-of _ _ _ _ (p .1) (p .2) in
-    (n, twins-of (a .kind .now) [] (a .parent .now) [] [] (a .item .now) _ _ _ _ (n .item) (c .before .before .before .before .before .buckets .ensures) (c .before .before .before .chain .ensures))
+    (n, twins-of (a .kind .now) [] (a .parent .now) [] [] (a .item .now) _ _ _ _ (n .item) (c .before .before .before .before .buckets .ensures) (c .before .before .chain .ensures))
 
 returns : tie.Need-returns
 returns c =
-    let p = c .before .before .before .before .before .before .before .before .before .before .pre in
+    let p = c .before .before .before .before .before .before .before .before .before .pre in
     let r = c .classes .ensures in
     λ doc n. grouped doc _ _ _ n _ (omega (arith, r .0, nested-of _ _ _ _ (p .1) (p .2) .few)) (r .1)
 
 pub group-spec : {M : Type 1} → statement M
 group-spec =
-    tie.close (tie.spec buckets-requires slice-aggregate-chain chain-requires classes-requires returns)
+    tie.close
+    (tie.spec
+    buckets-requires
+    slice-aggregate-chain
+    chain-requires
+    slice-aggregate-classes
+    classes-requires
+    returns)

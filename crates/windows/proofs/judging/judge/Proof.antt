@@ -13,7 +13,7 @@ slice-aggregate-mark-changes c = search needs
 
 mark-changes-requires : tie.Need-mark-changes-requires
 mark-changes-requires c κs =
-    let p = c .before .before .before .before .before .before .before .before .before .before .before .before .before .before .pre in
+    let p = c .before .before .before .before .before .before .before .before .before .before .pre in
     let s = p .2 .2 in
     markable (s .periods) (s .checked) (s .read .room) (s .room) (first-few _ (p .0))
 
@@ -34,7 +34,7 @@ slice-aggregate-walk-clear c = search needs
 
 walk-clear-requires : tie.Need-walk-clear-requires
 walk-clear-requires c κs =
-    let p = c .before .before .before .before .before .before .before .before .before .before .before .before .before .before .before .before .before .before .before .before .before .before .before .before .pre in
+    let p = c .before .before .before .before .before .before .before .before .before .before .before .before .before .before .before .before .before .before .before .before .pre in
     let s = p .2 .2 in
     let days = each-day (c .before .before .before .before .before .before .before .before .before .mark-changes .ensures (p .2 .0) (p .2 .1) _ (s .periods) (s .read) refl (s .held-read) refl) in (
       c .before .before .before .before .before .before .starts .ensures,
@@ -44,7 +44,7 @@ walk-clear-requires c κs =
 
 returns : tie.Need-returns
 returns c =
-    let p = c .before .before .before .before .before .before .before .before .before .before .before .before .before .before .before .before .before .before .before .before .before .before .before .before .before .pre in
+    let p = c .before .before .before .before .before .before .before .before .before .before .before .before .before .before .before .before .before .before .before .before .before .pre in
     let days = c .before .before .before .before .before .before .before .before .before .before .mark-changes .ensures in
     λ doc q s.
     c .walk-clear .ensures doc q _

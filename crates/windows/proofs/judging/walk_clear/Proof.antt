@@ -12,7 +12,7 @@ slice-aggregate-walk-2 c = search needs
 
 walk-requires : tie.Need-walk-requires
 walk-requires c κs =
-    let p = c .before .before .before .before .before .before .before .before .before .before .before .before .before .pre in
+    let p = c .before .before .before .before .before .before .before .before .before .before .before .before .before .before .before .before .before .before .before .before .before .pre in
     (p .0, p .1, lookable (p .2 .3) (p .2 .4))
 
 returns : tie.Need-returns
