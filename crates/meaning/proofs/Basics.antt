@@ -45,6 +45,11 @@ pub both : (a b : Bool) → a ≡ true → b ≡ true → a && b ≡ true
 both true b p q = q
 both false b p q = absurd (false≢true p)
 
+-- of two tests that do not both pass, one fails
+pub and-else : (a b : Bool) {C : Type 0} → (a ≡ false → C) → (b ≡ false → C) → a && b ≡ false → C
+and-else true b f g e = g e
+and-else false b f g e = f refl
+
 -- two tests behind a first one are equal if they are where the first one passes
 pub and-same : (a b c : Bool) → (a ≡ true → b ≡ c) → a && b ≡ (a && c)
 and-same true b c h = h refl

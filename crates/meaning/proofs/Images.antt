@@ -1,5 +1,5 @@
 -- The tests of an image's form are accepted exactly where the image is sound, block by block: refusals 1 to 4 and 21 to 24.
-use mathlib.Core.Path.{_≡_, refl}
+use mathlib.Core.Path.{_≡_, refl, sym, _∙_}
 use mathlib.Core.Logic.{_↔_, ⊎-elim}
 use mathlib.Core.Bool.{Bool, true, false, cond}
 use mathlib.Core.List.{List, [], _∷_}
@@ -17,6 +17,7 @@ use Rattle.meaning.specs.Block.{allZero, blocks, blockAt, counted, check
 use Rattle.meaning.proofs.Basics.{went}
 use Rattle.meaning.proofs.Orders.{order-passed, passed-order}
 use Rattle.meaning.proofs.Says.{says}
+use Rattle.meaning.proofs.Summed.{check-summed}
 use Rattle.meaning.proofs.Sound.{SoundBlock, SoundImage}
 
 -- the first n bytes are zeros
@@ -33,7 +34,7 @@ zeros-front (suc n) (x ∷ s) =
     )
 
 -- zeros from place r up to, not including, place n
-zeros-plain : (n r : ℕ) (s : List ℕ) → allZero (take (n - r) (drop r s)) ≡ true ↔ ((at : ℕ) → r ≤ at → at < n → byte s at ≡ 0)
+pub zeros-plain : (n r : ℕ) (s : List ℕ) → allZero (take (n - r) (drop r s)) ≡ true ↔ ((at : ℕ) → r ≤ at → at < n → byte s at ≡ 0)
 zeros-plain n r s =
     let front = zeros-front (n - r) (drop r s) in (
       λ e at h l.
@@ -43,7 +44,7 @@ zeros-plain n r s =
     )
 
 -- the least count of a block, last or not, is one or more
-at-least : (last : Bool) (n c : ℕ) → 1 ≤ n → cond last 1 n ≤ c → 1 ≤ c
+pub at-least : (last : Bool) (n c : ℕ) → 1 ≤ n → cond last 1 n ≤ c → 1 ≤ c
 at-least true n c one h = h
 at-least false n c one h = omega arith
 
@@ -58,7 +59,7 @@ module _ (form : Form) (image : List ℕ) (b : ℕ) (here : b < blocks image) wh
       let p = simp (says, zeros-plain) at e in
       let least = p .1 .0 .0 .1 in
       record {
-        check = p .0;
+        check = p .0 ∙ check-summed (take 508 (blockAt image b));
         number = omega arith;
         kind = omega arith;
         form-byte = omega arith;
@@ -74,7 +75,7 @@ module _ (form : Form) (image : List ℕ) (b : ℕ) (here : b < blocks image) wh
   sound-block s =
       let least : cond last 1 (form .each) ≤ counted (blockAt image b) =
       ⊎-elim (λ y. rw y (s .some)) (λ z. rw z (omega (arith, s .full (omega (arith, eqb-false (suc b) (blocks image) z))))) (went last) in
-      simp (says, zeros-plain) (s .check, (((((s .number, s .kind), s .form-byte), least), s .few), s .zeros))
+      simp (says, zeros-plain) (s .check ∙ sym (check-summed (take 508 (blockAt image b))), (((((s .number, s .kind), s .form-byte), least), s .few), s .zeros))
 
 -- 1 to 4: an image that passes is sound; a full block has one record or more
 pub image-sound : (form : Form) (image : List ℕ) → 1 ≤ form .each → inOrder (imageTests form image) ≡ Accepted → SoundImage form image

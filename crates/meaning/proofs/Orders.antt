@@ -1,4 +1,4 @@
--- What the first refusal in order says: accepted where every test is at every place, else the lowest place of the earliest test.
+-- Tests in their order: accepted where every test is at every place; what it is to be refused first, at the lowest place of the earliest test.
 use mathlib.Core.Path.{_≡_, refl, sym, _∙_, ap}
 use mathlib.Core.Logic.{_⊎_, inl, inr, ⊎-elim}
 use mathlib.Core.Bool.{Bool, true, false}
@@ -21,21 +21,12 @@ need-accepted false k i e = absurd (contrary e refl)
 pub needed : (t : Bool) (k i : ℕ) → t ≡ true → need t k i ≡ Accepted
 needed t k i e = rw e
 
--- a refusal of one test: the test failed, with its number and place
-pub need-refused : (t : Bool) (k i x y : ℕ) → need t k i ≡ Refused x y → (t ≡ false) × (k ≡ x) × (i ≡ y)
-need-refused true k i x y e = absurd (contrary refl e)
-need-refused false k i x y e = (refl, cc, cc)
-
 pub then-accepted : (a b : Reading) → andThen a b ≡ Accepted → (a ≡ Accepted) × (b ≡ Accepted)
 then-accepted Accepted b e = (refl, e)
 then-accepted (Refused k i) b e = absurd (contrary e refl)
 
 pub then-both : (a b : Reading) → a ≡ Accepted → b ≡ Accepted → andThen a b ≡ Accepted
 then-both a b p q = rw p q
-
-pub then-refused : (a b : Reading) (k i : ℕ) → andThen a b ≡ Refused k i → (a ≡ Refused k i) ⊎ ((a ≡ Accepted) × (b ≡ Refused k i))
-then-refused Accepted b k i e = inr (refl, e)
-then-refused (Refused x y) b k i e = inl e
 
 -- one of two, and so on for a reading
 pub came : (a : Reading) → (a ≡ Accepted) ⊎ ((k : ℕ) × (i : ℕ) × (a ≡ Refused k i))
@@ -69,23 +60,6 @@ module _ (f : ℕ → Reading) where
   all-earliest i (suc n) h =
       then-both (f i) (earliest f (suc i) n) (h i (omega arith) (omega arith)) (all-earliest (suc i) n (λ j a b. h j (omega arith) (omega arith)))
 
-  pub earliest-lowest : (i n k p : ℕ) → earliest f i n ≡ Refused k p → Lowest f i n k p
-  unfolding earliest
-  earliest-lowest i zero k p e = absurd (contrary refl e)
-  earliest-lowest i (suc n) k p e =
-      ⊎-elim
-      (λ r. record { spot = i; from = omega arith; below = omega arith; refused = r; before = λ j a b. absurd (omega arith) })
-      (λ w.
-      let l = earliest-lowest (suc i) n k p (w .1) in
-      record {
-        spot = l .spot;
-        from = omega (arith, l .from);
-        below = omega (arith, l .below);
-        refused = l .refused;
-        before = λ j a b. ⊎-elim (λ q. ap f (sym q) ∙ w .0) (λ lt. l .before j lt b) (eq-or-lt-of-le a);
-      })
-      (then-refused (f i) (earliest f (suc i) n) k p e)
-
 -- a test is accepted at all its places
 abbrev pub Passed : Test → Type 0
 Passed t = (j : ℕ) → j < t .places → t .at j ≡ Accepted
@@ -114,13 +88,3 @@ unfolding inOrder
 passed-order [] h = refl
 passed-order (t ∷ ts) h =
     then-both (earliest (t .at) 0 (t .places)) (inOrder ts) (all-earliest (t .at) 0 (t .places) (λ j a b. h .0 j (omega arith))) (passed-order ts (h .1))
-
--- THE LAW of refusals: the lowest offending place of the earliest test
-pub refusal-earliest : (ts : List Test) (k p : ℕ) → inOrder ts ≡ Refused k p → Earliest k p ts
-unfolding inOrder
-refusal-earliest [] k p e = absurd (contrary refl e)
-refusal-earliest (t ∷ ts) k p e =
-    ⊎-elim
-    (λ r. here t ts (earliest-lowest (t .at) 0 (t .places) k p r))
-    (λ w. later t ts (passed t (w .0)) (refusal-earliest ts k p (w .1)))
-    (then-refused (earliest (t .at) 0 (t .places)) (inOrder ts) k p e)

@@ -4,12 +4,14 @@ use mathlib.Core.Logic.{_↔_, _⊎_, inl, inr, ⊎-elim}
 use mathlib.Core.Bool.{Bool, true, false, _&&_, _||_, not, cond}
 use Prim.Native.Nat.{ℕ, zero, suc, _+_, _≤_, _<_}
 use native.Mathlib.Omega.{arith}
+use borrow.Author.Tests.{ltb-false}
 use lib.Dec.{eqb, ltb}
 use Rattle.meaning.specs.Walk.{any}
 use Rattle.meaning.specs.Document.{Doc, versionOf}
 use Rattle.meaning.specs.Nodes.{wholeFrom, whole}
 use Rattle.meaning.proofs.Sound.{Version, Rooted}
-use Rattle.meaning.proofs.Basics.{went, clear}
+use Rattle.meaning.proofs.Basics.{went, clear, and-else}
+use Rattle.meaning.proofs.Walks.{any-true}
 use Rattle.meaning.proofs.Says.{says}
 use Rattle.meaning.proofs.Places.{is-version, version-test, version-says}
 
@@ -99,3 +101,24 @@ module _ (doc : Doc) where
               (below (doc .size)),
         ),
       )
+
+  -- .. and fails where the root has no version, or one does not begin where the one before it ended
+  pub not-whole : ((v : ℕ) → Version doc 0 v → doc .begin v < doc .end v) → whole doc ≡ false
+      → ((v : ℕ) → Version doc 0 v → ⊥)
+      ⊎ ((u : ℕ) × (v : ℕ) × (u < v) × Version doc 0 u × Version doc 0 v × ((w : ℕ) → u < w → w < v → Version doc 0 w → ⊥) × (doc .end u ≡ doc .begin v → ⊥))
+  unfolding whole ended apart
+  not-whole period e =
+      let all = walked (doc .size) 0 (doc .size) (omega arith) in
+      and-else (not (any apart 0 (doc .size))) (ltb 0 (ended (doc .size)))
+      (λ z. let w = any-true apart 0 (doc .size) (simp says at z) in
+      let v = w .0 in
+      let a = simp (says, version-says) at (w .1 .passes) in
+      ⊎-elim
+      (λ q. absurd (a .1 .0 (q .1)))
+      (λ q. inr (q .0, v, q .1, q .2, a .0, q .3, λ s. a .1 .1 (sym (q .4 ∙ s))))
+      (below v))
+      (λ z. ⊎-elim
+      (λ q. inl (λ v x. q .0 v (omega arith) (x .here) x))
+      (λ q. absurd (omega (arith, ltb-false 0 (ended (doc .size)) z, q .4, period (q .0) (q .2))))
+      (below (doc .size)))
+      (sym all ∙ e)

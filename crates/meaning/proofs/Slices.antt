@@ -12,7 +12,7 @@ use Rattle.meaning.proofs.Sound.{Version, SoundRecords, Sound}
 use Rattle.meaning.proofs.Basics.{tests-same}
 use Rattle.meaning.proofs.Walks.{pick-same}
 use Rattle.meaning.proofs.Says.{says}
-use Rattle.meaning.proofs.Records.{item-deep, depth-up}
+use Rattle.meaning.proofs.Records.{item-deep, depth-up, depth-most}
 use Rattle.meaning.proofs.Places.{counted}
 use Rattle.meaning.proofs.Accepted.{accepted-sound}
 
@@ -97,7 +97,7 @@ module _ (doc : Doc) (s : Sound doc) (d : ℕ) where
   unfolding presentOn
   present-alive v =
       tests-same (reached doc d deepest v) (alive doc d v) (reached-alive deepest v)
-      (λ e. alive-reached deepest v (s .records .shallow v (stands doc (s .records) v (lives doc d v e .kind) .here)) e)
+      (λ e. alive-reached deepest v (depth-most doc (s .records) v (stands doc (s .records) v (lives doc d v e .kind) .here)) e)
 
   -- the slice is the versions alive, ascending
   pub slice-alive : slice doc d ≡ pick (alive doc d) 0 (doc .size)

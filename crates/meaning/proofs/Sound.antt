@@ -6,15 +6,16 @@ use Prim.Native.Nat.{ℕ, suc, _%_, _≤_, _<_}
 use lib.ListN.{length, take}
 use Rattle.meaning.specs.Bytes.{byte, four}
 use Rattle.meaning.specs.declared.Form.{Form}
-use Rattle.meaning.specs.Block.{nodeForm, ruleForm, check, blocks, blockAt, counted, recordAt, records, recordOf}
+use Rattle.meaning.specs.Block.{nodeForm, ruleForm, blocks, blockAt, counted, recordAt, records, recordOf}
 use Rattle.meaning.specs.Document.{Doc, node}
-use Rattle.meaning.specs.Nodes.{depth, docOf}
+use Rattle.meaning.specs.Nodes.{docOf}
 use Rattle.meaning.specs.Rules.{ruleAt, rulesOf}
 use Rattle.meaning.proofs.Rows.{ItemRow, VersionRow, RuleRow}
+use Rattle.meaning.proofs.Summed.{checkSum}
 
 -- 2, 3, 4: block b of an image
 pub record SoundBlock (form : Form) (image : List ℕ) (b : ℕ) : Type 0 where
-  pub check : four (blockAt image b) 508 ≡ check (take 508 (blockAt image b))
+  pub check : four (blockAt image b) 508 ≡ checkSum (take 508 (blockAt image b))
   pub number : four (blockAt image b) 0 ≡ b
   pub kind : byte (blockAt image b) 6 ≡ form .kind
   pub form-byte : byte (blockAt image b) 7 ≡ 0
@@ -41,7 +42,13 @@ pub record Item (doc : Doc) (i : ℕ) : Type 0 where
   pub here : i < doc .size
   pub kind : doc .kind i ≡ 1
 
--- 4, 5, 6, 8: each record by itself, its parent, its depth
+-- on the way from the root to record i, both counted, stand n items
+pub data Way (doc : Doc) : ℕ → ℕ → Type 0 where
+  root : Way doc 0 1
+  to-item : (i n : ℕ) → 0 < i → doc .kind i ≡ 1 → Way doc (doc .parent i) n → Way doc i (suc n)
+  to-version : (i n : ℕ) → 0 < i → doc .kind i ≡ 2 → Way doc (doc .parent i) n → Way doc i n
+
+-- 4, 5, 6, 8: each record by itself, its parent, the items on its way
 pub record SoundRecords (doc : Doc) : Type 0 where
   pub spare : (i : ℕ) → i < doc .size → doc .spare i ≡ 0
   pub table : (i : ℕ) → i < doc .size → ItemRow (node doc i) ⊎ VersionRow (node doc i)
@@ -50,7 +57,7 @@ pub record SoundRecords (doc : Doc) : Type 0 where
   pub lower : (i : ℕ) → 0 < i → i < doc .size → doc .parent i < i
   pub of-item : (i : ℕ) → 0 < i → i < doc .size → doc .kind i ≡ 2 → doc .kind (doc .parent i) ≡ 1
   pub of-version : (i : ℕ) → 0 < i → i < doc .size → doc .kind i ≡ 1 → doc .kind (doc .parent i) ≡ 2
-  pub shallow : (i : ℕ) → i < doc .size → depth doc i ≤ 8
+  pub shallow : (i n : ℕ) → i < doc .size → Way doc i n → n ≤ 8
 
 -- 7: versions of one item record in order and apart, each within the version in which its item stands
 pub record Placed (doc : Doc) : Type 0 where

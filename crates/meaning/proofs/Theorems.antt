@@ -1,6 +1,6 @@
 -- The theorems about the meaning of document 01, each statement to be read by itself; the proofs stand in the files cited.
 use mathlib.Core.Path.{_≡_, ap}
-use mathlib.Core.Logic.{_↔_, _⊎_}
+use mathlib.Core.Logic.{_↔_}
 use mathlib.Core.Bool.{Bool}
 use mathlib.Core.List.{List, [], _∷_}
 use Prim.Native.Nat.{ℕ, _+_, _*_, _/_, _≤_, _<_}
@@ -11,16 +11,22 @@ use Rattle.meaning.specs.declared.Reading.the-variants.{Accepted, Refuse
 use Rattle.meaning.specs.declared.Verdict.the-variants.{Holds, Fails}
 use Rattle.meaning.specs.Walk.{count, pick}
 use Rattle.meaning.specs.Bytes.{byte}
-use Rattle.meaning.specs.Order.{inOrder}
-use Rattle.meaning.specs.Block.{nodeForm, ruleForm, check, checkFrom, imageTests}
+use Rattle.meaning.specs.Order.{andThen, inOrder}
+use Rattle.meaning.specs.Block.{nodeForm, check, checkFrom, imageTests}
 use Rattle.meaning.specs.Document.{Doc}
-use Rattle.meaning.specs.Nodes.{docOf, documentTests, accept, readNodes}
-use Rattle.meaning.specs.Rules.{rulesOf, tableTests, readRules}
+use Rattle.meaning.specs.Nodes.{docOf, accept, readNodes}
+use Rattle.meaning.specs.Rules.{readRules}
 use Rattle.meaning.specs.Select.{reads}
 use Rattle.meaning.specs.Day.{alive, presentOn, slice, offends, offender, changeDays, onDays}
 use Rattle.meaning.specs.Window.{windows, inWindows}
+use Rattle.meaning.specs.Answer.{readVerdict, readSlice, readChanges, changesOf}
 use Rattle.meaning.proofs.Sound.{Sound, SoundNodes, SoundRules}
-use Rattle.meaning.proofs.Orders.{Earliest, AllPassed, then-accepted, then-both}
+use Rattle.meaning.proofs.Orders.{then-accepted, then-both}
+use Rattle.meaning.proofs.Lines.{FirstDue, refused-exactly}
+use Rattle.meaning.proofs.Due.{nodeLines, ruleLines, verdictLines, sliceLines, changesLines}
+use Rattle.meaning.proofs.DueDocument.{nodes-say}
+use Rattle.meaning.proofs.DueRules.{rules-say}
+use Rattle.meaning.proofs.DueCalls.{roomy, verdict-says, slice-says, changes-says}
 use Rattle.meaning.proofs.Picks.{Ascending, In}
 use Rattle.meaning.proofs.Quiet.{Quiet}
 use Rattle.meaning.proofs.Over.{over}
@@ -30,7 +36,6 @@ use Rattle.meaning.proofs.Windows.{NoFaultAmong, FirstFaultIn}
 use Rattle.meaning.proofs.Images as Images
 use Rattle.meaning.proofs.Accepted as Accept
 use Rattle.meaning.proofs.RulesSound as RulesSound
-use Rattle.meaning.proofs.Refusals as Refusals
 use Rattle.meaning.proofs.Slices as Slices
 use Rattle.meaning.proofs.Quiet as Quiet′
 use Rattle.meaning.proofs.Changes as Changes
@@ -51,14 +56,25 @@ nodes-accepted image = (
 pub rules-accepted : (image : List ℕ) → (readRules image ≡ Accepted) ↔ SoundRules image
 rules-accepted image = (RulesSound.rules-sound image, RulesSound.sound-rules image)
 
--- .. and a refusal names the lowest offending place of the earliest test.
-pub nodes-refused : (image : List ℕ) (k p : ℕ) → readNodes image ≡ Refused k p
-    → Earliest k p (imageTests nodeForm image) ⊎ (AllPassed (imageTests nodeForm image) × Earliest k p (documentTests (docOf image)))
-nodes-refused = Refusals.nodes-refusal
+-- .. and refused with number a at place b exactly when that is the first line due of 01's table, in 01's order (`Due`): a is due at b, and
+-- nothing that comes earlier is due.
+pub nodes-refused : (image : List ℕ) (a b : ℕ) → (readNodes image ≡ Refused a b) ↔ FirstDue a b (nodeLines image)
+nodes-refused image = refused-exactly (readNodes image) (nodeLines image) (nodes-say image)
 
-pub rules-refused : (image : List ℕ) (k p : ℕ) → readRules image ≡ Refused k p
-    → Earliest k p (imageTests ruleForm image) ⊎ (AllPassed (imageTests ruleForm image) × Earliest k p (tableTests image (rulesOf image)))
-rules-refused = Refusals.rules-refusal
+pub rules-refused : (image : List ℕ) (a b : ℕ) → (readRules image ≡ Refused a b) ↔ FirstDue a b (ruleLines image)
+rules-refused image = refused-exactly (readRules image) (ruleLines image) (rules-say image)
+
+-- The same for the calls: what `verdict`, `slice` and `change_days` read before they answer.
+pub verdict-refused : (nodes rules : List ℕ) (k a b : ℕ) → (readVerdict nodes rules k ≡ Refused a b) ↔ FirstDue a b (verdictLines nodes rules k)
+verdict-refused nodes rules k = refused-exactly (readVerdict nodes rules k) (verdictLines nodes rules k) (verdict-says nodes rules k)
+
+pub slice-refused : (nodes : List ℕ) (d : ℕ) (lent : List ℕ) (a b : ℕ)
+    → (andThen (readSlice nodes d) (roomy (slice (docOf nodes) d) lent) ≡ Refused a b) ↔ FirstDue a b (sliceLines nodes d lent)
+slice-refused nodes d lent = refused-exactly _ (sliceLines nodes d lent) (slice-says nodes d lent)
+
+pub changes-refused : (nodes rules : List ℕ) (k : ℕ) (lent : List ℕ) (a b : ℕ)
+    → (andThen (readChanges nodes rules k) (roomy (changesOf nodes rules k) lent) ≡ Refused a b) ↔ FirstDue a b (changesLines nodes rules k lent)
+changes-refused nodes rules k lent = refused-exactly _ (changesLines nodes rules k lent) (changes-says nodes rules k lent)
 
 -- 2. Slices: in an accepted document Algorithm 2 comes to exactly the versions with begin ≤ d < end, ascending.
 pub slice-alive : (doc : Doc) → accept doc ≡ Accepted → (d : ℕ) → slice doc d ≡ pick (alive doc d) 0 (doc .size)
