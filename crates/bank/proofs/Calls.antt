@@ -1,11 +1,11 @@
--- The laws behind the theorems about the public calls: tests in their order, the ways of a verdict, what a list is stored as, what fits a verdict.
+-- The laws behind the theorems about the public calls: the ways of a verdict, what a list is stored as, what fits a verdict.
 use mathlib.Core.Path.{_≡_, refl, sym, ap, ap₂, _∙_}
 use mathlib.Core.Logic.{_↔_, _⊎_, inl, inr, ⊎-elim}
-use mathlib.Core.Bool.{Bool, true, false, _&&_, cond}
+use mathlib.Core.Bool.{Bool, true, false, cond}
 use mathlib.Core.List.{List, [], _∷_, _++_}
 use Prim.Native.Nat.{ℕ, suc, _+_, _≤_, _<_}
 use native.Mathlib.Omega.{arith}
-use lib.Dec.{leb, ltb}
+use lib.Dec.{leb}
 use lib.ListN.{length, drop}
 use borrow.Author.Tests.{leb-true, le-leb, lt-leb, lt-ltb, le-ltb, ne-eqb}
 use Rattle.meaning.specs.declared.Found.{Found}
@@ -17,18 +17,16 @@ use Rattle.meaning.specs.declared.Verdict.{Verdict}
 use Rattle.meaning.specs.declared.Verdict.the-variants.{Holds, Fails, Refused as Unjudged}
 use Rattle.meaning.specs.declared.Listed.{Listed}
 use Rattle.meaning.specs.declared.Listed.the-variants.{Stored, Refused as Unlisted}
-use Rattle.meaning.specs.Order.{need, andThen, earliest, Test, inOrder}
-use Rattle.meaning.specs.Block.{nodeForm, ruleForm, imageTests}
+use Rattle.meaning.specs.Order.{need, andThen}
 use Rattle.meaning.specs.Document.{Doc}
-use Rattle.meaning.specs.Nodes.{docOf, documentTests, accept, readNodes}
-use Rattle.meaning.specs.Rules.{isSequenced, ruleAt, rulesOf, tableTests, readRules}
+use Rattle.meaning.specs.Nodes.{docOf, readNodes}
+use Rattle.meaning.specs.Rules.{isSequenced, ruleAt, rulesOf, readRules}
 use Rattle.meaning.specs.Day.{alive, slice, onDays}
 use Rattle.meaning.specs.Window.{Window, meets, offendsIn, offenderIn, windows, judge, inWindows}
-use Rattle.meaning.specs.Answer.{referredBy, judged, verdictAfter, readVerdict, verdict, storing, lentAfter, readSlice, readChanges, changesOf}
+use Rattle.meaning.specs.Answer.{referredBy, judged, verdictAfter, readVerdict, verdict, storing, lentAfter, readSlice, readChanges}
 use Rattle.meaning.proofs.Basics.{went, clear}
-use Rattle.meaning.proofs.Orders.{Earliest, contrary, came, refusal-earliest}
+use Rattle.meaning.proofs.Orders.{contrary, came}
 use Rattle.meaning.proofs.Says.{says}
-use Rattle.meaning.proofs.Refusals.{earliest-refusal}
 use Rattle.meaning.proofs.Sound.{Sound}
 use Rattle.meaning.proofs.Walks.{first-none, first-at}
 use Rattle.meaning.proofs.Places.{counted}
@@ -37,41 +35,9 @@ use Rattle.meaning.proofs.Slices.{Lives, lives, alive-lives, slice-alive}
 use Rattle.meaning.proofs.Faults.{FirstFault, on-days, holds-none, fails-first}
 use Rattle.meaning.proofs.Windows.{NoFaultIn, NoFaultAmong, FirstFaultIn}
 
--- one test, at one place
-abbrev single : Bool → ℕ → Test
-single t number = record { places = 1; at = need t number }
-
 -- one equivalence after the other
 pub through : {A B C : Type 0} → A ↔ B → B ↔ C → A ↔ C
 through f g = (λ a. g .0 (f .0 a), λ c. f .1 (g .1 c))
-
--- Tests in their order.
-then-assoc : (a b c : Reading) → andThen a (andThen b c) ≡ andThen (andThen a b) c
-then-assoc Accepted b c = refl
-then-assoc (Refused k i) b c = refl
-
-order-append : (ts us : List Test) → inOrder (ts ++ us) ≡ andThen (inOrder ts) (inOrder us)
-unfolding inOrder
-order-append [] us = refl
-order-append (t ∷ ts) us =
-    ap (andThen (earliest (t .at) 0 (t .places))) (order-append ts us) ∙ then-assoc (earliest (t .at) 0 (t .places)) (inOrder ts) (inOrder us)
-
-order-single : (t : Bool) (n : ℕ) (ts : List Test) → inOrder (single t n ∷ ts) ≡ andThen (need t n 0) (inOrder ts)
-unfolding inOrder earliest
-order-single true n ts = refl
-order-single false n ts = refl
-
-order-last : (t : Bool) (n : ℕ) → inOrder (single t n ∷ []) ≡ need t n 0
-unfolding inOrder earliest
-order-last true n = refl
-order-last false n = refl
-
-order-two : (t u : Bool) (n m : ℕ) → inOrder (single t n ∷ single u m ∷ []) ≡ andThen (need t n 0) (need u m 0)
-order-two t u n m = order-single t n (single u m ∷ []) ∙ ap (andThen (need t n 0)) (order-last u m)
-
--- refused by tests in their order: at the lowest place of the earliest one
-pub refused-exactly : (ts : List Test) {x : Reading} → inOrder ts ≡ x → (a b : ℕ) → (x ≡ Refused a b) ↔ Earliest a b ts
-refused-exactly ts e a b = (λ r. refusal-earliest ts a b (e ∙ r), λ w. sym e ∙ earliest-refusal a b w)
 
 -- The ways of a verdict.
 -- a verdict that holds or fails
@@ -156,45 +122,8 @@ module _ (before : Reading) (list lent : List ℕ) {x : Listed} {after : List �
   pub listed-filled : (n : ℕ) → x ≡ Stored n → after ≡ list ++ drop n lent
   listed-filled n h = l ∙ ap (λ y. lentAfter y list lent) (sym e ∙ h)
 
--- The tests of each call are its reading.
--- those of a node image, and of a node image and a rule image
-abbrev nodeTests : List ℕ → List Test
-nodeTests nodes = imageTests nodeForm nodes ++ documentTests (docOf nodes)
-
-abbrev bothTests : List ℕ → List ℕ → List Test
-bothTests nodes rules = nodeTests nodes ++ imageTests ruleForm rules ++ tableTests rules (rulesOf rules)
-
-nodes-order : (nodes : List ℕ) → inOrder (nodeTests nodes) ≡ readNodes nodes
-unfolding readNodes accept
-nodes-order nodes = order-append (imageTests nodeForm nodes) (documentTests (docOf nodes))
-
-both-order : (nodes rules : List ℕ) → inOrder (bothTests nodes rules) ≡ andThen (readNodes nodes) (readRules rules)
-unfolding readRules
-both-order nodes rules =
-    let images = inOrder (imageTests ruleForm rules) in
-    let tables = inOrder (tableTests rules (rulesOf rules)) in
-    order-append (nodeTests nodes ++ imageTests ruleForm rules) (tableTests rules (rulesOf rules))
-    ∙ ap (λ y. andThen y tables) (order-append (nodeTests nodes) (imageTests ruleForm rules) ∙ ap (λ y. andThen y images) (nodes-order nodes))
-    ∙ sym (then-assoc (readNodes nodes) images tables)
-
--- and tests after these
-after-nodes : (nodes : List ℕ) (ts : List Test) → inOrder (nodeTests nodes ++ ts) ≡ andThen (readNodes nodes) (inOrder ts)
-after-nodes nodes ts = order-append (nodeTests nodes) ts ∙ ap (λ y. andThen y (inOrder ts)) (nodes-order nodes)
-
-after-both : (nodes rules : List ℕ) (ts : List Test) → inOrder (bothTests nodes rules ++ ts) ≡ andThen (readNodes nodes) (andThen (readRules rules) (inOrder ts))
-after-both nodes rules ts =
-    order-append (bothTests nodes rules) ts ∙ ap (λ y. andThen y (inOrder ts)) (both-order nodes rules)
-    ∙ sym (then-assoc (readNodes nodes) (readRules rules) (inOrder ts))
-
 -- The verdict of two images and a rule number.
 module _ (nodes rules : List ℕ) (k : ℕ) where
-  abbrev here : Bool
-  here = ltb k (length (rulesOf rules))
-
-  pub verdict-order : inOrder (bothTests nodes rules ++ single here 11 ∷ []) ≡ readVerdict nodes rules k
-  unfolding readVerdict
-  verdict-order = after-both nodes rules (single here 11 ∷ []) ∙ ap (λ y. andThen (readNodes nodes) (andThen (readRules rules) y)) (order-last here 11)
-
   pub verdict-read : (readVerdict nodes rules k ≡ Accepted) ↔ ((readNodes nodes ≡ Accepted) × ((readRules rules ≡ Accepted) × (k < length (rulesOf rules))))
   unfolding readVerdict
   verdict-read = (λ e. simp says at e, λ w. simp says w)
@@ -231,14 +160,6 @@ module _ (nodes rules : List ℕ) (k : ℕ) where
 
 -- The slice of a node image.
 module _ (nodes : List ℕ) (d : ℕ) where
-  pub slice-order : (lent : List ℕ)
-      → inOrder (nodeTests nodes ++ single (leb d 36524) 11 ∷ single (leb (length (slice (docOf nodes) d)) (length lent)) 12 ∷ []) ≡ andThen (readSlice nodes d) (need (leb (length (slice (docOf nodes) d)) (length lent)) 12 0)
-  unfolding readSlice
-  slice-order lent =
-      let room = leb (length (slice (docOf nodes) d)) (length lent) in
-      after-nodes nodes (single (leb d 36524) 11 ∷ single room 12 ∷ []) ∙ ap (andThen (readNodes nodes)) (order-two (leb d 36524) room 11 12)
-      ∙ then-assoc (readNodes nodes) (need (leb d 36524) 11 0) (need room 12 0)
-
   pub slice-read : (readSlice nodes d ≡ Accepted) ↔ ((readNodes nodes ≡ Accepted) × (d ≤ 36524))
   unfolding readSlice
   slice-read = (λ e. simp says at e, λ w. simp says w)
@@ -253,20 +174,6 @@ module _ (nodes : List ℕ) (d : ℕ) where
 
 -- The change days of a rule of two images.
 module _ (nodes rules : List ℕ) (k : ℕ) where
-  abbrev sequenced-here : Bool
-  sequenced-here = ltb k (length (rulesOf rules)) && isSequenced (ruleAt (rulesOf rules) k)
-
-  pub changes-order : (lent : List ℕ)
-      → inOrder (bothTests nodes rules ++ single sequenced-here 11 ∷ single (leb (length (changesOf nodes rules k)) (length lent)) 12 ∷ []) ≡ andThen (readChanges nodes rules k) (need (leb (length (changesOf nodes rules k)) (length lent)) 12 0)
-  unfolding readChanges
-  changes-order lent =
-      let room = leb (length (changesOf nodes rules k)) (length lent) in
-      let last = need room 12 0 in
-      after-both nodes rules (single sequenced-here 11 ∷ single room 12 ∷ [])
-      ∙ ap (λ y. andThen (readNodes nodes) (andThen (readRules rules) y)) (order-two sequenced-here room 11 12)
-      ∙ ap (andThen (readNodes nodes)) (then-assoc (readRules rules) (need sequenced-here 11 0) last)
-      ∙ then-assoc (readNodes nodes) (andThen (readRules rules) (need sequenced-here 11 0)) last
-
   pub changes-read : (readChanges nodes rules k ≡ Accepted) ↔ ((readNodes nodes ≡ Accepted) × ((readRules rules ≡ Accepted) × ((k < length (rulesOf rules)) × (ruleAt (rulesOf rules) k .windowed ≡ 0))))
   unfolding readChanges
   changes-read = (λ e. simp says at e, λ w. simp says w)

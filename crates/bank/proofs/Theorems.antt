@@ -1,11 +1,10 @@
 -- The three demands as theorems about the public calls `verdict`, `slice` and `change_days`, each statement to be read by itself.
 use mathlib.Core.Path.{_≡_, refl, sym, _∙_}
 use mathlib.Core.Logic.{_↔_, _⊎_}
-use mathlib.Core.Bool.{_&&_}
-use mathlib.Core.List.{List, [], _∷_, _++_}
+use mathlib.Core.List.{List, _++_}
 use Prim.Native.Nat.{ℕ, _+_, _*_, _≤_, _<_}
 use native.Mathlib.Omega.{arith}
-use lib.Dec.{leb, ltb}
+use lib.Dec.{leb}
 use lib.ListN.{length, drop}
 use Rattle.meaning.specs.declared.Rule.{Rule}
 use Rattle.meaning.specs.declared.Reading.the-variants.{Accepted, Refused}
@@ -13,11 +12,10 @@ use Rattle.meaning.specs.declared.Verdict.{Verdict}
 use Rattle.meaning.specs.declared.Verdict.the-variants.{Holds, Fails, Refused as Unjudged}
 use Rattle.meaning.specs.declared.Listed.{Listed}
 use Rattle.meaning.specs.declared.Listed.the-variants.{Stored, Refused as Unlisted}
-use Rattle.meaning.specs.Order.{need, andThen, Test}
-use Rattle.meaning.specs.Block.{nodeForm, ruleForm, imageTests}
+use Rattle.meaning.specs.Order.{need, andThen}
 use Rattle.meaning.specs.Document.{Doc}
-use Rattle.meaning.specs.Nodes.{docOf, documentTests, readNodes}
-use Rattle.meaning.specs.Rules.{isSequenced, ruleAt, rulesOf, tableTests, readRules}
+use Rattle.meaning.specs.Nodes.{docOf, readNodes}
+use Rattle.meaning.specs.Rules.{ruleAt, rulesOf, readRules}
 use Rattle.meaning.specs.Walk.{count, pick}
 use Rattle.meaning.specs.Select.{reads}
 use Rattle.meaning.specs.Day.{alive, slice, offender, onDays}
@@ -25,8 +23,9 @@ use Rattle.meaning.specs.Window.{windows}
 use Rattle.meaning.specs.Answer.{referredBy, judged, verdict, readVerdict, sliceAnswer, sliceLent, readSlice, changesOf, changesAnswer, changesLent, readChanges}
 use Rattle.meaning.proofs.Unique as Unique
 use Rattle.meaning.proofs.Sound.{SoundNodes, SoundRules}
-use Rattle.meaning.proofs.Orders.{Earliest}
-use Rattle.meaning.proofs.Theorems.{nodes-accepted, rules-accepted, fails-on-days, fails-in-windows, enough-days}
+use Rattle.meaning.proofs.Lines.{FirstDue}
+use Rattle.meaning.proofs.Due.{verdictLines, sliceLines, changesLines}
+use Rattle.meaning.proofs.Theorems.{nodes-accepted, rules-accepted, verdict-refused, slice-refused, changes-refused, fails-on-days, fails-in-windows, enough-days}
 use Rattle.meaning.proofs.Accepted.{sound-accepted}
 use Rattle.meaning.proofs.Picks.{Ascending, In, pick-ascends}
 use Rattle.meaning.proofs.Slices.{Lives}
@@ -71,25 +70,6 @@ slice-answers nodes d lent = (_, _, (refl, refl))
 pub changes-answers : (nodes rules : List ℕ) (k : ℕ) (lent : List ℕ) → (x : Listed) × (after : List ℕ) × ChangesPromise nodes rules k lent x after
 changes-answers nodes rules k lent = (_, _, (refl, refl))
 
--- The tests of each call, in the order of 01: a test is how many places it looks at and what it says at each.
-abbrev pub imagesTests : List ℕ → List ℕ → List Test
-imagesTests nodes rules = imageTests nodeForm nodes ++ documentTests (docOf nodes) ++ imageTests ruleForm rules ++ tableTests rules (rulesOf rules)
-
-abbrev pub verdictTests : List ℕ → List ℕ → ℕ → List Test
-verdictTests nodes rules k = imagesTests nodes rules ++ record { places = 1; at = need (ltb k (length (rulesOf rules))) 11 } ∷ []
-
-abbrev pub sliceTests : List ℕ → ℕ → List ℕ → List Test
-sliceTests nodes d lent =
-    imageTests nodeForm nodes ++ documentTests (docOf nodes) ++ record { places = 1; at = need (leb d 36524) 11 }
-    ∷ record { places = 1; at = need (leb (length (slice (docOf nodes) d)) (length lent)) 12 }
-    ∷ []
-
-abbrev pub changesTests : List ℕ → List ℕ → ℕ → List ℕ → List Test
-changesTests nodes rules k lent =
-    imagesTests nodes rules ++ record { places = 1; at = need (ltb k (length (rulesOf rules)) && isSequenced (ruleAt (rulesOf rules) k)) 11 }
-    ∷ record { places = 1; at = need (leb (length (changesOf nodes rules k)) (length lent)) 12 }
-    ∷ []
-
 -- both images are sound, and rule k stands in the table
 pub record Answerable (nodes rules : List ℕ) (k : ℕ) : Type 0 where
   pub nodes-sound : SoundNodes nodes
@@ -115,8 +95,8 @@ pub record Filled (list : List ℕ) (n : ℕ) (lent after : List ℕ) : Type 0 w
 
 -- What `verdict` refuses, and how; x is its answer.
 pub record VerdictRefusals (nodes rules : List ℕ) (k : ℕ) (x : Verdict) : Type 0 where
-  -- refused with number a and place b exactly when these are of the earliest test that fails, at its lowest place
-  pub exactly : (a b : ℕ) → (x ≡ Unjudged a b) ↔ Earliest a b (verdictTests nodes rules k)
+  -- refused with number a and place b exactly when these are of the first line that is due of 01's table, in 01's order (meaning/proofs/Due.antt)
+  pub exactly : (a b : ℕ) → (x ≡ Unjudged a b) ↔ FirstDue a b (verdictLines nodes rules k)
   -- so it is refused as the reading of images and rule number is
   pub as-read : (a b : ℕ) → (x ≡ Unjudged a b) ↔ (readVerdict nodes rules k ≡ Refused a b)
   -- not refused exactly when both images are sound and there is such a rule
@@ -133,7 +113,7 @@ pub verdict-refusals : (nodes rules : List ℕ) (k : ℕ) (x : Verdict) → Verd
 verdict-refusals nodes rules k x p =
     let e = Unique.verdict-unique x (verdict nodes rules k) p in
     record {
-      exactly = λ a b. Calls.through (Calls.verdict-as-read nodes rules k e a b) (Calls.refused-exactly (verdictTests nodes rules k) (Calls.verdict-order nodes rules k) a b);
+      exactly = λ a b. Calls.through (Calls.verdict-as-read nodes rules k e a b) (verdict-refused nodes rules k a b);
       as-read = Calls.verdict-as-read nodes rules k e;
       given = Calls.through (Calls.verdict-given nodes rules k e) (answerable nodes rules k);
       nodes-first = Calls.verdict-nodes nodes rules k e;
@@ -143,8 +123,8 @@ verdict-refusals nodes rules k x p =
 
 -- What `slice` refuses, and how; x is its answer and `after` the lent list afterwards.
 pub record SliceRefusals (nodes : List ℕ) (d : ℕ) (lent : List ℕ) (x : Listed) (after : List ℕ) : Type 0 where
-  -- refused with number a and place b exactly when these are of the earliest test that fails, at its lowest place
-  pub exactly : (a b : ℕ) → (x ≡ Unlisted a b) ↔ Earliest a b (sliceTests nodes d lent)
+  -- refused with number a and place b exactly when these are of the first line that is due of 01's table, in 01's order
+  pub exactly : (a b : ℕ) → (x ≡ Unlisted a b) ↔ FirstDue a b (sliceLines nodes d lent)
   -- so it is refused as the reading of image and day is, or else for want of room
   pub as-read : (a b : ℕ) → (x ≡ Unlisted a b) ↔ (andThen (readSlice nodes d) (need (leb (length (slice (docOf nodes) d)) (length lent)) 12 0) ≡ Refused a b)
   -- a list is stored exactly when the image is sound, there is such a day, and the lent list has room
@@ -169,7 +149,7 @@ slice-refusals nodes d lent x after p =
     let read = readSlice nodes d in
     let stored = Calls.listed-stored read list lent e (p .1) in
     record {
-      exactly = λ a b. Calls.through (Calls.listed-refused read list lent e (p .1) a b) (Calls.refused-exactly (sliceTests nodes d lent) (Calls.slice-order nodes d lent) a b);
+      exactly = λ a b. Calls.through (Calls.listed-refused read list lent e (p .1) a b) (slice-refused nodes d lent a b);
       as-read = Calls.listed-refused read list lent e (p .1);
       given = (
         λ w. let s = stored (w .0) (w .1) in let r = Calls.slice-read nodes d .0 (s .0) in (nodes-accepted nodes .0 (r .0), r .1, omega (arith, s .1, s .2)),
@@ -184,8 +164,8 @@ slice-refusals nodes d lent x after p =
 
 -- What `change_days` refuses, and how.
 pub record ChangesRefusals (nodes rules : List ℕ) (k : ℕ) (lent : List ℕ) (x : Listed) (after : List ℕ) : Type 0 where
-  -- refused with number a and place b exactly when these are of the earliest test that fails, at its lowest place
-  pub exactly : (a b : ℕ) → (x ≡ Unlisted a b) ↔ Earliest a b (changesTests nodes rules k lent)
+  -- refused with number a and place b exactly when these are of the first line that is due of 01's table, in 01's order
+  pub exactly : (a b : ℕ) → (x ≡ Unlisted a b) ↔ FirstDue a b (changesLines nodes rules k lent)
   -- so it is refused as the reading of images and rule is, or else for want of room
   pub as-read : (a b : ℕ) → (x ≡ Unlisted a b) ↔ (andThen (readChanges nodes rules k) (need (leb (length (changesOf nodes rules k)) (length lent)) 12 0) ≡ Refused a b)
   -- a list is stored exactly when both images are sound, there is such a rule, it is sequenced, and the lent list has room
@@ -219,7 +199,7 @@ changes-refusals nodes rules k lent x after p =
     let accepted : Answerable nodes rules k → Sequenced (ruleAt (rulesOf rules) k) → read ≡ Accepted =
     λ w s. Calls.changes-read nodes rules k .1 (n-accepted (w .nodes-sound), (r-accepted (w .rules-sound), (w .in-table, s))) in
     record {
-      exactly = λ a b. Calls.through (Calls.listed-refused read list lent e (p .1) a b) (Calls.refused-exactly (changesTests nodes rules k lent) (Calls.changes-order nodes rules k lent) a b);
+      exactly = λ a b. Calls.through (Calls.listed-refused read list lent e (p .1) a b) (changes-refused nodes rules k lent a b);
       as-read = Calls.listed-refused read list lent e (p .1);
       given = (
         λ w. let s = stored (w .0) (w .1) in
