@@ -5,10 +5,11 @@ use mathlib.Core.List.{List, [], _∷_}
 use Prim.Native.Nat.{ℕ, zero, suc, _+_, _-_, _*_, _≤_, _<_}
 use native.Mathlib.Omega.{arith}
 use borrow.Author.Tests.{le-leb, lt-leb, lt-ltb, le-ltb}
+use Rattle.calendar.specs.declared.Month.the-variants.{Number}
 use Rattle.calendar.specs.Gregorian.{monthDay, monthStart}
 use Rattle.calendar.proofs.Months.{start-past, start-ascends, month-on-found, month-on-start}
 use Rattle.meaning.specs.declared.Rule.{Rule}
-use Rattle.meaning.specs.Window.{Window, least, dayWindow, monthWindow, windowsFrom, windowsBy, windows}
+use Rattle.meaning.specs.Window.{Window, least, dayWindow, monthWindow, monthWindows, windowsFrom, windowsBy, windows}
 use Rattle.meaning.proofs.Basics.{le-or-lt}
 use Rattle.meaning.proofs.Rows.{RuleRow, WindowRow, whole-period, in-days, in-months}
 
@@ -129,7 +130,7 @@ module _ (r : Rule) (j : ℕ) (w : Window) where
   unfolding windowsBy
   days-listed h =
       let start = r .begin + j * r .slide in
-      let listed = nth-from (dayWindow r) r (λ k l. omega arith) (r .end - r .begin) (r .begin) j w (omega arith) in
+      let listed : Nth (windowsBy r 1) j w ↔ ((dayWindow r start ≡ w) × (w .from < r .end)) = nth-from (dayWindow r) r (λ k l. omega arith) _ (r .begin) j w (omega arith) in
       let days = clipped start (start + r .span) (r .end) (start + r .span) w in (
         λ n. let t = listed .0 n in
             let d = days .0 (t .0) in
@@ -146,7 +147,7 @@ module _ (r : Rule) (j : ℕ) (w : Window) where
   unfolding windowsBy
   months-listed h c k m e =
       let place = k + j * r .slide in
-      let listed = nth-from (monthWindow r) r (entry-rises h c) (r .end - r .begin) k j w (omega arith) in
+      let listed : Nth (monthWindows r (Number k)) j w ↔ ((monthWindow r place ≡ w) × (w .from < r .end)) = nth-from (monthWindow r) r (entry-rises h c) _ k j w (omega arith) in
       let days = clipped (monthStart place) (monthStart (place + r .span)) (r .end) (monthDay (place + r .span)) w in
       rw (month-on-start (r .begin) k m e) (
         λ n. let t = listed .0 n in
