@@ -3,7 +3,7 @@ use mathlib.Core.Path.{_≡_, refl, sym, ap, ap₂, _∙_}
 use mathlib.Core.Logic.{_↔_, _⊎_, inl, inr, ⊎-elim}
 use mathlib.Core.Bool.{Bool, true, false, cond}
 use mathlib.Core.List.{List, [], _∷_, _++_}
-use Prim.Native.Nat.{ℕ, suc, _+_, _≤_, _<_}
+use Prim.Native.Nat.{ℕ, zero, suc, _+_, _≤_, _<_}
 use native.Mathlib.Omega.{arith}
 use lib.Dec.{leb}
 use lib.ListN.{length, drop}
@@ -28,12 +28,13 @@ use Rattle.meaning.proofs.Basics.{went, clear}
 use Rattle.meaning.proofs.Orders.{contrary, came}
 use Rattle.meaning.proofs.Says.{says}
 use Rattle.meaning.proofs.Sound.{Sound}
-use Rattle.meaning.proofs.Walks.{first-none, first-at}
+use Rattle.meaning.proofs.Walks.{first-at}
 use Rattle.meaning.proofs.Places.{counted}
 use Rattle.meaning.proofs.Picks.{In, in-picked, picked-in}
 use Rattle.meaning.proofs.Slices.{Lives, lives, alive-lives, slice-alive}
 use Rattle.meaning.proofs.Faults.{FirstFault, on-days, holds-none, fails-first}
-use Rattle.meaning.proofs.Windows.{NoFaultIn, NoFaultAmong, FirstFaultIn}
+use Rattle.meaning.proofs.Timetable.{Nth}
+use Rattle.meaning.proofs.Windows.{NoFaultIn, FirstFaultIn, none-found}
 
 -- one equivalence after the other
 pub through : {A B C : Type 0} → A ↔ B → B ↔ C → A ↔ C
@@ -215,25 +216,22 @@ module _ (doc : Doc) (q r : Rule) where
       (w .2, w .3 ∙ ap₂ (λ (c u : ℕ). Fails c u (w .2)) (s .0) (s .1)))
       (days-answer doc q r)
 
-  none-in : (w : Window) → NoFaultIn doc q r w → offenderIn doc q r w ≡ Nothing
-  unfolding offenderIn
-  none-in w h = first-none (offendsIn doc (meets doc w) q r) 0 (doc .size) (λ v a b. h v (omega arith))
-
   -- windows without an offender are passed over, up to one that has
-  judge-split : (before : List Window) (w : Window) (after : List Window) (k v : ℕ) → NoFaultAmong doc q r before → offenderIn doc q r w ≡ At v
-      → judge (offenderIn doc q r) (before ++ w ∷ after) k ≡ Fails (w .from) v (suc (length before + k))
+  judge-up-to : (ws : List Window) (i : ℕ) (w : Window) (k v : ℕ) → Nth ws i w → ((j : ℕ) (x : Window) → j < i → Nth ws j x → NoFaultIn doc q r x)
+      → offenderIn doc q r w ≡ At v → judge (offenderIn doc q r) ws k ≡ Fails (w .from) v (suc (i + k))
   unfolding judge
-  judge-split [] w after k v none e = rw e (ap (Fails (w .from) v) (omega arith))
-  judge-split (b ∷ bs) w after k v none e =
-      let clear-window : offenderIn doc q r b ≡ Nothing = none-in b (none .0) in
-      rw clear-window (judge-split bs w after (suc k) v (none .1) e ∙ ap (Fails (w .from) v) (omega arith))
+  judge-up-to [] i w k v here none e = absurd here
+  judge-up-to (b ∷ bs) zero w k v here none e = rw (here, e) (ap (Fails (w .from) v) (omega arith))
+  judge-up-to (b ∷ bs) (suc i) w k v here none e =
+      let clear-window : offenderIn doc q r b ≡ Nothing = none-found doc q r b (none 0 b (omega arith) refl) in
+      rw clear-window (judge-up-to bs i w (suc k) v here (λ j x l h. none (suc j) x (omega arith) h) e ∙ ap (Fails (w .from) v) (omega arith))
 
   pub first-fails-in : (d v n : ℕ) → FirstFaultIn doc q r d v n → inWindows doc q r ≡ Fails d v n
   unfolding inWindows offenderIn
   first-fails-in d v n f =
       let w = f .window in
       let e : offenderIn doc q r w ≡ At v = first-at (offendsIn doc (meets doc w) q r) v 0 (doc .size) (omega arith) (omega (arith, f .here)) (f .offence) (λ u a b. f .lowest u b) in
-      ap (λ ws. judge (offenderIn doc q r) ws 0) (f .split) ∙ judge-split (f .before) w (f .after) 0 v (f .first-window) e
+      judge-up-to (windows r) (f .earlier) w 0 v (f .placed) (f .first-window) e
       ∙ ap₂ (λ (c m : ℕ). Fails c v m) (f .start) (omega (arith, f .counted))
 
 -- The slice of a sound document.

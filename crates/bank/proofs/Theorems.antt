@@ -19,19 +19,20 @@ use Rattle.meaning.specs.Rules.{ruleAt, rulesOf, readRules}
 use Rattle.meaning.specs.Walk.{count, pick}
 use Rattle.meaning.specs.Select.{reads}
 use Rattle.meaning.specs.Day.{alive, slice, offender, onDays}
-use Rattle.meaning.specs.Window.{windows}
+use Rattle.meaning.specs.Window.{Window, windows}
 use Rattle.meaning.specs.Answer.{referredBy, judged, verdict, readVerdict, sliceAnswer, sliceLent, readSlice, changesOf, changesAnswer, changesLent, readChanges}
 use Rattle.meaning.proofs.Unique as Unique
 use Rattle.meaning.proofs.Sound.{SoundNodes, SoundRules}
 use Rattle.meaning.proofs.Lines.{FirstDue}
 use Rattle.meaning.proofs.Due.{verdictLines, sliceLines, changesLines}
-use Rattle.meaning.proofs.Theorems.{nodes-accepted, rules-accepted, verdict-refused, slice-refused, changes-refused, fails-on-days, fails-in-windows, enough-days}
+use Rattle.meaning.proofs.Theorems.{nodes-accepted, rules-accepted, verdict-refused, slice-refused, changes-refused, fails-on-days, fails-in-windows, which-windows, enough-days}
 use Rattle.meaning.proofs.Accepted.{sound-accepted}
 use Rattle.meaning.proofs.Picks.{Ascending, In, pick-ascends}
 use Rattle.meaning.proofs.Slices.{Lives}
 use Rattle.meaning.proofs.Over.{over}
 use Rattle.meaning.proofs.Changes.{ChangeDay, At-place}
 use Rattle.meaning.proofs.Faults.{NoFault, FirstFault}
+use Rattle.meaning.proofs.Timetable.{Nth, IsWindow}
 use Rattle.meaning.proofs.Windows.{NoFaultAmong, FirstFaultIn}
 use Rattle.meaning.proofs.Slices as Slices
 use Rattle.meaning.proofs.Faults as Faults
@@ -253,6 +254,8 @@ sequenced-verdict nodes rules k x p w s =
 
 -- A non-sequenced rule: the same, in windows.
 pub record JudgedInWindows (doc : Doc) (q r : Rule) (x : Verdict) : Type 0 where
+  -- its windows: window j, from 0, is w exactly when w starts and ends as 01 says by the unit (`Timetable.IsWindow`)
+  pub which : (j : ℕ) (w : Window) → Nth (windows r) j w ↔ IsWindow r j w
   -- it holds exactly when no record offends in any window of its period, ..
   pub holds : ((n : ℕ) × (x ≡ Holds n)) ↔ NoFaultAmong doc q r (windows r)
   -- .. and then all windows were counted
@@ -271,6 +274,7 @@ windowed-verdict nodes rules k x p w s =
     let r = ruleAt (rulesOf rules) k in
     let e = judged-as nodes rules k x p w ∙ sym (judged-windows doc q r s) in
     record {
+      which = which-windows r (w .rules-sound .table k (w .in-table));
       holds = (λ h. Windows.holds-none-in doc q r (h .0) (sym e ∙ h .1) .0, λ h. (_, e ∙ Windows.none-holds-in doc q r h));
       all-counted = λ n h. Windows.holds-none-in doc q r n (sym e ∙ h) .1;
       fails = λ d v n. (λ h. fails-in-windows doc q r d v n (sym e ∙ h), λ h. e ∙ Calls.first-fails-in doc q r d v n h);

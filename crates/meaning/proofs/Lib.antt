@@ -33,6 +33,7 @@ pub mod Picks
 pub mod Over
 pub mod Changes
 pub mod Faults
+pub mod Timetable
 pub mod Windows
 pub mod Hops
 pub mod Asking

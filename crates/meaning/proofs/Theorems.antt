@@ -18,8 +18,9 @@ use Rattle.meaning.specs.Nodes.{docOf, accept, readNodes}
 use Rattle.meaning.specs.Rules.{readRules}
 use Rattle.meaning.specs.Select.{reads}
 use Rattle.meaning.specs.Day.{alive, presentOn, slice, offends, offender, changeDays, onDays}
-use Rattle.meaning.specs.Window.{windows, inWindows}
+use Rattle.meaning.specs.Window.{Window, windows, inWindows}
 use Rattle.meaning.specs.Answer.{readVerdict, readSlice, readChanges, changesOf}
+use Rattle.meaning.proofs.Rows.{RuleRow}
 use Rattle.meaning.proofs.Sound.{Sound, SoundNodes, SoundRules}
 use Rattle.meaning.proofs.Orders.{then-accepted, then-both}
 use Rattle.meaning.proofs.Lines.{FirstDue, refused-exactly}
@@ -32,6 +33,7 @@ use Rattle.meaning.proofs.Quiet.{Quiet}
 use Rattle.meaning.proofs.Over.{over}
 use Rattle.meaning.proofs.Changes.{ChangeDay, At-place}
 use Rattle.meaning.proofs.Faults.{NoFault, FirstFault}
+use Rattle.meaning.proofs.Timetable.{Nth, IsWindow}
 use Rattle.meaning.proofs.Windows.{NoFaultAmong, FirstFaultIn}
 use Rattle.meaning.proofs.Images as Images
 use Rattle.meaning.proofs.Accepted as Accept
@@ -40,6 +42,7 @@ use Rattle.meaning.proofs.Slices as Slices
 use Rattle.meaning.proofs.Quiet as Quiet′
 use Rattle.meaning.proofs.Changes as Changes
 use Rattle.meaning.proofs.Faults as Faults
+use Rattle.meaning.proofs.Timetable as Timetable
 use Rattle.meaning.proofs.Windows as Windows
 use Rattle.meaning.proofs.Changed as Changed
 use Rattle.meaning.proofs.Checks as Checks
@@ -125,6 +128,11 @@ holds-in-windows doc q r = (λ e. Windows.holds-none-in doc q r _ e .0, Windows.
 
 pub fails-in-windows : (doc : Doc) (q r : Rule) (d v n : ℕ) → inWindows doc q r ≡ Fails d v n → FirstFaultIn doc q r d v n
 fails-in-windows = Windows.fails-first-in
+
+-- Which windows a rule of the table has: window j, from 0, starts j slides after the period's begin, if that lies in the period, and ends as
+-- `Timetable.IsWindow` says by the unit. So the two statements above can be read without opening `windows`.
+pub which-windows : (r : Rule) → RuleRow r → (j : ℕ) (w : Window) → Nth (windows r) j w ↔ IsWindow r j w
+which-windows = Timetable.which-windows
 
 -- 6. One changed byte of an accepted image is refused with 2, of a rule image with 22, at its block.
 pub node-byte-shows : (image : List ℕ) (i x : ℕ) → ((k : ℕ) → byte image k < 256) → x < 256 → i < length image → (x ≡ byte image i → ⊥)

@@ -1,8 +1,8 @@
 -- What a verdict in windows says: holds exactly where no record offends in any window, else the first window's start and its lowest offender.
 use mathlib.Core.Path.{_≡_, refl, ap, sym, _∙_}
 use mathlib.Core.Bool.{true, false}
-use mathlib.Core.List.{List, [], _∷_, _++_}
-use Prim.Native.Nat.{ℕ, suc, _+_, _<_}
+use mathlib.Core.List.{List, [], _∷_}
+use Prim.Native.Nat.{ℕ, zero, suc, _+_, _<_}
 use native.Mathlib.Omega.{arith}
 use native.Mathlib.Nat.{add-zero}
 use lib.ListN.{length}
@@ -13,23 +13,26 @@ use Rattle.meaning.specs.declared.Verdict.the-variants.{Holds, Fails}
 use Rattle.meaning.specs.Walk.{first}
 use Rattle.meaning.specs.Document.{Doc}
 use Rattle.meaning.specs.Window.{Window, meets, offendsIn, offenderIn, windows, judge, inWindows}
+use Rattle.meaning.proofs.Timetable.{Nth}
 use Rattle.meaning.proofs.Walks.{first-found, first-nothing, first-none}
 
 -- nothing is found in any of the windows
 abbrev pub Clear : (Window → Found) → List Window → Type 0
-Clear f [] = Unit {0}
-Clear f (w ∷ ws) = (f w ≡ Nothing) × Clear f ws
+Clear f ws = (j : ℕ) (w : Window) → Nth ws j w → f w ≡ Nothing
+
+-- nothing is found in the first n of them
+abbrev pub ClearBefore : (Window → Found) → List Window → ℕ → Type 0
+ClearBefore f ws n = (j : ℕ) (w : Window) → j < n → Nth ws j w → f w ≡ Nothing
 
 -- the first window in which something is found, and how many came before it
 pub record FirstWindow (f : Window → Found) (ws : List Window) (k d v n : ℕ) : Type 0 where
-  pub before : List Window
   pub window : Window
-  pub after : List Window
-  pub split : ws ≡ before ++ window ∷ after
-  pub none : Clear f before
+  pub earlier : ℕ
+  pub placed : Nth ws earlier window
+  pub none : ClearBefore f ws earlier
   pub found-there : f window ≡ At v
   pub start : window .from ≡ d
-  pub counted : n ≡ suc (length before + k)
+  pub counted : n ≡ suc (earlier + k)
 
 module _ (f : Window → Found) where
   -- one window, with an offender or without
@@ -41,19 +44,28 @@ module _ (f : Window → Found) where
   unfolding judge
   on-miss w ws k e = rw e
 
+  -- nothing is found in one window more
+  clear-more : (x : Window) (ws : List Window) → f x ≡ Nothing → Clear f ws → Clear f (x ∷ ws)
+  clear-more x ws e c zero w h = ap f (sym h) ∙ e
+  clear-more x ws e c (suc j) w h = c j w h
+
+  before-more : (x : Window) (ws : List Window) (n : ℕ) → f x ≡ Nothing → ClearBefore f ws n → ClearBefore f (x ∷ ws) (suc n)
+  before-more x ws n e c zero w l h = ap f (sym h) ∙ e
+  before-more x ws n e c (suc j) w l h = c j w (omega arith) h
+
   pub judge-holds : (ws : List Window) (k n : ℕ) → judge f ws k ≡ Holds n → Clear f ws × (n ≡ length ws + k)
   unfolding judge
-  judge-holds [] k n e = (tt, let p : k ≡ n = cc in omega arith)
+  judge-holds [] k n e = (λ j w h. absurd h, let p : k ≡ n = cc in omega arith)
   judge-holds (w ∷ ws) k n e = go (f w) refl (judge-holds ws (suc k) n)
     where
       go : (x : Found) → f w ≡ x → (judge f ws (suc k) ≡ Holds n → Clear f ws × (n ≡ length ws + suc k)) → Clear f (w ∷ ws) × (n ≡ suc (length ws) + k)
       go (At v) x ih = let p : Fails (w .from) v (suc k) ≡ Holds n = sym (on-hit w ws k v x) ∙ e in let z : _≡_ {A = ℕ} 0 1 = cc in absurd (omega arith)
-      go Nothing x ih = let c = ih (sym (on-miss w ws k x) ∙ e) in ((x, c .0), omega (arith, c .1))
+      go Nothing x ih = let c = ih (sym (on-miss w ws k x) ∙ e) in (clear-more w ws x (c .0), omega (arith, c .1))
 
   pub clear-holds : (ws : List Window) (k : ℕ) → Clear f ws → judge f ws k ≡ Holds (length ws + k)
   unfolding judge
   clear-holds [] k c = ap Holds (omega arith)
-  clear-holds (w ∷ ws) k c = on-miss w ws k (c .0) ∙ clear-holds ws (suc k) (c .1) ∙ ap Holds (omega arith)
+  clear-holds (w ∷ ws) k c = on-miss w ws k (c 0 w refl) ∙ clear-holds ws (suc k) (λ j x h. c (suc j) x h) ∙ ap Holds (omega arith)
 
   pub judge-fails : (ws : List Window) (k d v n : ℕ) → judge f ws k ≡ Fails d v n → FirstWindow f ws k d v n
   unfolding judge
@@ -65,15 +77,14 @@ module _ (f : Window → Found) where
           let p : Fails (w .from) u (suc k) ≡ Fails d v n = sym (on-hit w ws k u x) ∙ e in
           let q : u ≡ v = cc in
           let m : suc k ≡ n = cc in
-          record { before = []; window = w; after = ws; split = refl; none = tt; found-there = x ∙ ap At q; start = cc; counted = omega arith }
+          record { window = w; earlier = 0; placed = refl; none = λ j y l h. absurd (omega arith); found-there = x ∙ ap At q; start = cc; counted = omega arith }
       go Nothing x ih =
           let c = ih (sym (on-miss w ws k x) ∙ e) in
           record {
-            before = w ∷ c .before;
             window = c .window;
-            after = c .after;
-            split = ap (λ l. w ∷ l) (c .split);
-            none = (x, c .none);
+            earlier = suc (c .earlier);
+            placed = c .placed;
+            none = before-more w ws (c .earlier) x (c .none);
             found-there = c .found-there;
             start = c .start;
             counted = omega (arith, c .counted);
@@ -85,46 +96,36 @@ NoFaultIn doc q r w = (v : ℕ) → v < doc .size → offendsIn doc (meets doc w
 
 -- nor in any of the windows
 abbrev pub NoFaultAmong : Doc → Rule → Rule → List Window → Type 0
-NoFaultAmong doc q r [] = Unit {0}
-NoFaultAmong doc q r (w ∷ ws) = NoFaultIn doc q r w × NoFaultAmong doc q r ws
+NoFaultAmong doc q r ws = (j : ℕ) (w : Window) → Nth ws j w → NoFaultIn doc q r w
 
--- v offends in a window of the list that starts on d, no lower record does, and none in an earlier window; n windows end with it
+-- v offends in a window of the rule that starts on d, no lower record does, and none in an earlier window; n windows end with it
 pub record FirstFaultIn (doc : Doc) (q r : Rule) (d v n : ℕ) : Type 0 where
-  pub before : List Window
   pub window : Window
-  pub after : List Window
-  pub split : windows r ≡ before ++ window ∷ after
+  pub earlier : ℕ
+  pub placed : Nth (windows r) earlier window
   pub start : window .from ≡ d
-  pub counted : n ≡ suc (length before)
+  pub counted : n ≡ suc earlier
   pub here : v < doc .size
   pub offence : offendsIn doc (meets doc window) q r v ≡ true
   pub lowest : (u : ℕ) → u < v → offendsIn doc (meets doc window) q r u ≡ false
-  pub first-window : NoFaultAmong doc q r before
+  pub first-window : (j : ℕ) (w : Window) → j < earlier → Nth (windows r) j w → NoFaultIn doc q r w
 
 module _ (doc : Doc) (q r : Rule) where
   none-in : (w : Window) → offenderIn doc q r w ≡ Nothing → NoFaultIn doc q r w
   unfolding offenderIn
   none-in w e v h = first-nothing (offendsIn doc (meets doc w) q r) 0 (doc .size) e v (omega arith) (omega arith)
 
-  none-found : (w : Window) → NoFaultIn doc q r w → offenderIn doc q r w ≡ Nothing
+  pub none-found : (w : Window) → NoFaultIn doc q r w → offenderIn doc q r w ≡ Nothing
   unfolding offenderIn
   none-found w h = first-none (offendsIn doc (meets doc w) q r) 0 (doc .size) (λ v a b. h v (omega arith))
 
-  clear-none : (ws : List Window) → Clear (offenderIn doc q r) ws → NoFaultAmong doc q r ws
-  clear-none [] c = tt
-  clear-none (w ∷ ws) c = (none-in w (c .0), clear-none ws (c .1))
-
-  none-clear : (ws : List Window) → NoFaultAmong doc q r ws → Clear (offenderIn doc q r) ws
-  none-clear [] c = tt
-  none-clear (w ∷ ws) c = (none-found w (c .0), none-clear ws (c .1))
-
   pub holds-none-in : (n : ℕ) → inWindows doc q r ≡ Holds n → NoFaultAmong doc q r (windows r) × (n ≡ length (windows r))
   unfolding inWindows
-  holds-none-in n e = let c = judge-holds (offenderIn doc q r) (windows r) 0 n e in (clear-none (windows r) (c .0), omega (arith, c .1))
+  holds-none-in n e = let c = judge-holds (offenderIn doc q r) (windows r) 0 n e in (λ j w p. none-in w (c .0 j w p), omega (arith, c .1))
 
   pub none-holds-in : NoFaultAmong doc q r (windows r) → inWindows doc q r ≡ Holds (length (windows r))
   unfolding inWindows
-  none-holds-in h = clear-holds (offenderIn doc q r) (windows r) 0 (none-clear (windows r) h) ∙ ap Holds (add-zero _)
+  none-holds-in h = clear-holds (offenderIn doc q r) (windows r) 0 (λ j w p. none-found w (h j w p)) ∙ ap Holds (add-zero _)
 
   pub fails-first-in : (d v n : ℕ) → inWindows doc q r ≡ Fails d v n → FirstFaultIn doc q r d v n
   unfolding inWindows offenderIn
@@ -132,14 +133,13 @@ module _ (doc : Doc) (q r : Rule) where
       let c = judge-fails (offenderIn doc q r) (windows r) 0 d v n e in
       let o = first-found (offendsIn doc (meets doc (c .window)) q r) 0 (doc .size) v (c .found-there) in
       record {
-        before = c .before;
         window = c .window;
-        after = c .after;
-        split = c .split;
+        earlier = c .earlier;
+        placed = c .placed;
         start = c .start;
         counted = omega (arith, c .counted);
         here = omega (arith, o .below);
         offence = o .passes;
         lowest = λ u h. o .before u (omega arith) h;
-        first-window = clear-none (c .before) (c .none);
+        first-window = λ j w l p. none-in w (c .none j w l p);
       }
