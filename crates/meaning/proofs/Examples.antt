@@ -4,10 +4,14 @@ use mathlib.Core.List.{List, [], _∷_}
 use Prim.Native.Nat.{ℕ}
 use lib.IntN.{ℤ, pos, negsuc}
 use Rattle.meaning.specs.declared.Node.{Node}
+use Rattle.meaning.specs.declared.Rule.{Rule}
+use Rattle.meaning.specs.declared.Reading.the-variants.{Accepted, Refused}
 use Rattle.meaning.specs.declared.Verdict.the-variants.{Holds, Fails, Refused as Unjudged}
 use Rattle.meaning.specs.declared.Listed.the-variants.{Stored, Refused as Unlisted}
 use Rattle.meaning.specs.Document.{ofNodes}
 use Rattle.meaning.specs.Nodes.{docOf}
+use Rattle.meaning.specs.Rules.{rulesOf}
+use Rattle.meaning.specs.Answer.{Told, tellVerdict, tellListed, tellReading}
 use Rattle.meaning.proofs.Asking.{Asked, onRule, onSlice, onChanges, Answered, told, stored, Example, answers, expecteds, by-computing}
 use Rattle.meaning.proofs.ImageBytes.{bankNodes, bankRules, slipNodes, slipRules}
 use Rattle.meaning.proofs.Opened.{opened}
@@ -93,3 +97,64 @@ pub bank-listed : docOf bankNodes ≡ ofNodes (
     )
 unfolding opened bankNodes
 bank-listed = refl
+
+-- a rule with the path 1/2: kind, mode, byte 19; field, referred rule; min, max; period; window's length, unit and slide
+abbrev onMixers : ℕ → ℕ → ℕ → ℕ → ℕ → ℤ → ℤ → ℕ → ℕ → ℕ → ℕ → ℕ → Rule
+onMixers kind windowed distinct field referred low high begin end span unit slide =
+    record {
+      kind = kind;
+      windowed = windowed;
+      path = 1 ∷ 2 ∷ 0 ∷ 0 ∷ 0 ∷ 0 ∷ 0 ∷ 0 ∷ [];
+      steps = 2;
+      distinct = distinct;
+      field = field;
+      referred = referred;
+      low = low;
+      high = high;
+      begin = begin;
+      end = end;
+      span = span;
+      unit = unit;
+      slide = slide;
+    }
+
+-- the rule bytes are those of the seven rules as 01 lists them: key, the same non-sequenced, datatype, cardinality, datatype and distinct
+-- cardinality non-sequenced, reference to rule 0
+pub rules-listed : rulesOf bankRules ≡ (
+    onMixers 1 0 0 3 65535 (pos 0) (pos 0) 0 36525 0 0 0
+    ∷ onMixers 1 1 0 3 65535 (pos 0) (pos 0) 0 36525 0 0 0
+    ∷ onMixers 5 0 0 4 65535 (pos 0) (pos 9999) 0 36525 0 0 0
+    ∷ onMixers 4 0 0 4 65535 (pos 1) (pos 1) 0 36525 0 0 0
+    ∷ onMixers 5 1 0 4 65535 (negsuc 499) (pos 500) 0 36525 0 0 0
+    ∷ onMixers 4 1 1 4 65535 (pos 1) (pos 1) 100 500 100 1 100
+    ∷ onMixers 3 0 0 3 0 (pos 0) (pos 0) 0 36525 0 0 0
+    ∷ []
+    )
+unfolding opened bankRules
+rules-listed = refl
+
+-- outcome, number, place, day, offender, count
+abbrev tells : ℕ → ℕ → ℕ → ℕ → ℕ → ℕ → Told
+tells outcome number place day offender count =
+    record { outcome = outcome; number = number; place = place; day = day; offender = offender; count = count }
+
+-- each kind of answer in 01's numbers
+pub told-examples :
+    (tellVerdict (Holds 4)
+    ∷ tellVerdict (Fails 200 3 5)
+    ∷ tellVerdict (Unjudged 26 6)
+    ∷ tellListed (Stored 4)
+    ∷ tellListed (Unlisted 9 8)
+    ∷ tellReading Accepted
+    ∷ tellReading (Refused 7 5)
+    ∷ [])
+    ≡ (tells 0 0 0 0 0 4
+    ∷ tells 1 0 0 200 3 5
+    ∷ tells 2 26 6 0 0 0
+    ∷ tells 0 0 0 0 0 4
+    ∷ tells 2 9 8 0 0 0
+    ∷ tells 0 0 0 0 0 0
+    ∷ tells 2 7 5 0 0 0
+    ∷ [])
+unfolding opened
+told-examples = refl
