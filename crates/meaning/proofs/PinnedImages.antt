@@ -1,7 +1,7 @@
 -- The banks of the pinned examples, record by record: each is accepted as it stands here, and its image holds these records.
 use mathlib.Core.Path.{refl}
 use mathlib.Core.List.{List, [], _∷_, _++_}
-use Prim.Native.Nat.{ℕ}
+use Prim.Native.Nat.{ℕ, zero, suc}
 use lib.IntN.{pos, negsuc}
 use lib.ListN.{replicate}
 use Rattle.meaning.specs.declared.Node.{Node}
@@ -58,9 +58,14 @@ pub deep-held : Held (nodes deep) (ofNodes deep)
 unfolding opened written deep
 deep-held = record { nodes-read = refl; document = refl }
 
--- two blocks: 25 records and one, a version of item 2 [3,4)
+-- n items in record 1, their numbers from k on
+unfoldable pub items : ℕ → ℕ → List Node
+items k zero = []
+items k (suc n) = item 2 1 k ∷ items (suc k) n
+
+-- two blocks: 25 records and one, a version of the item in record 2
 unfoldable pub fullBlock : List ℕ
-fullBlock = nodes (item 1 65535 1 ∷ bare 0 0 10 ∷ replicate 23 (item 2 1 2))
+fullBlock = nodes (item 1 65535 1 ∷ bare 0 0 10 ∷ items 2 23)
 
 unfoldable pub lastBlock : List ℕ
 lastBlock = block 1 1 (nodeBytes (bare 2 3 4) ∷ [])

@@ -9,7 +9,7 @@ use Rattle.meaning.proofs.Asking.{onRule, onSlice, onChanges, told, sto
 use Rattle.meaning.proofs.Opened.{opened}
 use Rattle.meaning.proofs.Writing.{pair, quad, put, item, bare, nodes, spoilt, inNode, written}
 use Rattle.meaning.proofs.Pinning.{Pin, pin, Right, by-pinning}
-use Rattle.meaning.proofs.PinnedImages.{little, deep, fullBlock, lastBlock}
+use Rattle.meaning.proofs.PinnedImages.{little, deep, items, fullBlock, lastBlock}
 
 -- the slice of a day from this image, into a list with exactly the room it needs
 abbrev sliced : List ℕ → ℕ → List ℕ → ℕ → Pin
@@ -69,7 +69,7 @@ nodeBlocks =
     ∷ []
 
 pub node-blocks : Right nodeBlocks
-unfolding opened written nodeBlocks little deep fullBlock lastBlock
+unfolding opened written nodeBlocks little deep items fullBlock lastBlock
 node-blocks = by-pinning nodeBlocks refl
 
 unfoldable pub nodeRecords : List Pin

@@ -162,6 +162,9 @@ ruleNumbers =
     ∷ refusedRule 25 (months 1 0 (rule 1 1 one 0))
     ∷ refusedRule 25 (months 1201 1 (rule 1 1 one 0))
     ∷ refusedRule 25 (months 1 1201 (rule 1 1 one 0))
+    ∷ read (months 1200 1200 (rule 2 1 one 0)) (Holds 1)
+    -- 25: months from a day that no month starts on; from the start of February they are read
+    ∷ refusedRule 25 (during 30 91 (months 1 1 (rule 1 1 one 0)))
     ∷ read (during 31 91 (months 1 1 (rule 2 1 one 0))) (Holds 2)
     -- 25: unit 3
     ∷ refusedRule 25 (put 38 (3 ∷ []) (days 1 1 (rule 1 1 one 0)))
