@@ -31,8 +31,8 @@ pub mod Decoded
 pub mod Pinning
 pub mod Opened
 pub mod ImageBytes
-pub mod Examples
 pub mod Writing
+pub mod Examples
 pub mod PinnedImages
 pub mod PinnedNodes
 pub mod PinnedRules

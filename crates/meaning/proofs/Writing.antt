@@ -62,7 +62,7 @@ unfoldable pub rule : ℕ → ℕ → List ℕ → ℕ → List ℕ
 rule kind mode path field =
     kind ∷ mode ∷ padded 16 (pairs path) ++ length path ∷ 0 ∷ pair field ++ pair 65535 ++ replicate 8 0 ++ pair 0 ++ pair 36525 ++ replicate 14 0
 
--- the same rule with something said more
+-- the same rule: counting distinct values, referring to rule k, with bounds, over a period
 unfoldable pub distinct : List ℕ → List ℕ
 distinct r = put 19 (1 ∷ []) r
 
@@ -82,7 +82,7 @@ days span slide r = put 36 (pair span ++ 1 ∷ 0 ∷ pair slide) r
 unfoldable pub months : ℕ → ℕ → List ℕ → List ℕ
 months span slide r = put 36 (pair span ++ 2 ∷ 0 ∷ pair slide) r
 
--- 508 bytes and their check, which the bytes of the example bank and the worked values pin
+-- 508 bytes and their check: that of the definitions, which the example bank's bytes pin (Examples.bank-written)
 unfoldable pub sealed : List ℕ → List ℕ
 sealed s = s ++ quad (check s)
 
@@ -97,13 +97,14 @@ nodes ns = block 0 1 (map nodeBytes ns)
 abbrev pub table : List (List ℕ) → List ℕ
 table rs = block 0 2 rs
 
--- a block with other bytes from k on, sealed anew; the same from byte k of a node record or a rule on
+-- a block with other bytes from k on, sealed anew; the same from byte k of node record i on
 unfoldable pub spoilt : ℕ → List ℕ → List ℕ → List ℕ
 spoilt k bytes s = sealed (put k bytes (take 508 s))
 
 abbrev pub inNode : ℕ → ℕ → List ℕ → List ℕ → List ℕ
 inNode i k bytes s = spoilt (8 + 20 * i + k) bytes s
 
+-- one name that unfolds every writer here
 unfoldable pub written : Unit {0}
 unfolding check pairs joined padded put nodeBytes rule distinct to between during days months sealed block spoilt
 written = tt
