@@ -4,13 +4,18 @@ use mathlib.Core.List.{List, [], _∷_}
 use Prim.Native.Nat.{ℕ}
 use lib.IntN.{ℤ, pos, negsuc}
 use Rattle.meaning.specs.declared.Node.{Node}
+use Rattle.meaning.specs.declared.Rule.{Rule}
+use Rattle.meaning.specs.declared.Reading.the-variants.{Accepted, Refused}
 use Rattle.meaning.specs.declared.Verdict.the-variants.{Holds, Fails, Refused as Unjudged}
 use Rattle.meaning.specs.declared.Listed.the-variants.{Stored, Refused as Unlisted}
 use Rattle.meaning.specs.Document.{ofNodes}
 use Rattle.meaning.specs.Nodes.{docOf}
+use Rattle.meaning.specs.Rules.{rulesOf}
+use Rattle.meaning.specs.Answer.{Told, tellVerdict, tellListed, tellReading}
 use Rattle.meaning.proofs.Asking.{Asked, onRule, onSlice, onChanges, Answered, told, stored, Example, answers, expecteds, by-computing}
 use Rattle.meaning.proofs.ImageBytes.{bankNodes, bankRules, slipNodes, slipRules}
 use Rattle.meaning.proofs.Opened.{opened}
+use Rattle.meaning.proofs.Writing.{item, bare, number, text, rule, distinct, to, between, during, days, nodes, table, written}
 
 abbrev ex : Asked → Answered → Example
 ex q a = record { asked = q; expected = a }
@@ -66,30 +71,106 @@ pub slip-examples : answers slipNodes slipRules slips ≡ expecteds slips
 unfolding opened slips slipNodes slipRules
 slip-examples = by-computing slipNodes slipRules slips refl
 
-abbrev item : ℕ → ℕ → ℕ → Node
-item n p k = record { kind = 1; vkind = 0; name = n; parent = p; begin = 0; end = 0; value = pos 0; item = k; spare = 0 }
-
-abbrev version : ℕ → ℕ → ℕ → ℕ → ℤ → Node
-version p b e k z = record { kind = 2; vkind = k; name = 0; parent = p; begin = b; end = e; value = z; item = 0; spare = 0 }
-
--- the bytes are those of the bank as 01 lists it: names, parents and item numbers; parents, periods, value kinds and values
-pub bank-listed : docOf bankNodes ≡ ofNodes (
+-- the bank as 01 lists it: names, parents and item numbers; parents, periods and values
+unfoldable pub bank : List Node
+bank =
     item 1 65535 1
-    ∷ version 0 100 500 0 (pos 0)
+    ∷ bare 0 100 500
     ∷ item 2 1 2
-    ∷ version 2 100 300 0 (pos 0)
+    ∷ bare 2 100 300
     ∷ item 3 3 3
-    ∷ version 4 100 300 2 (pos 70)
+    ∷ text 4 100 300 70
     ∷ item 4 3 4
-    ∷ version 6 100 200 1 (pos 2150)
-    ∷ version 6 200 300 1 (negsuc 2149)
+    ∷ number 6 100 200 (pos 2150)
+    ∷ number 6 200 300 (negsuc 2149)
     ∷ item 2 1 5
-    ∷ version 9 300 500 0 (pos 0)
+    ∷ bare 9 300 500
     ∷ item 3 10 6
-    ∷ version 11 300 500 2 (pos 70)
+    ∷ text 11 300 500 70
     ∷ item 4 10 7
-    ∷ version 13 300 400 1 (pos 2300)
+    ∷ number 13 300 400 (pos 2300)
+    ∷ []
+
+-- the bytes are those of this bank, and are what is written of it
+pub bank-listed : docOf bankNodes ≡ ofNodes bank
+unfolding opened bankNodes bank
+bank-listed = refl
+
+pub bank-written : nodes bank ≡ bankNodes
+unfolding opened written bankNodes bank
+bank-written = refl
+
+-- a rule with the path 1/2: kind, mode, byte 19; field, referred rule; min, max; period; window's length, unit and slide
+abbrev onMixers : ℕ → ℕ → ℕ → ℕ → ℕ → ℤ → ℤ → ℕ → ℕ → ℕ → ℕ → ℕ → Rule
+onMixers kind windowed distinct field referred low high begin end span unit slide =
+    record {
+      kind = kind;
+      windowed = windowed;
+      path = 1 ∷ 2 ∷ 0 ∷ 0 ∷ 0 ∷ 0 ∷ 0 ∷ 0 ∷ [];
+      steps = 2;
+      distinct = distinct;
+      field = field;
+      referred = referred;
+      low = low;
+      high = high;
+      begin = begin;
+      end = end;
+      span = span;
+      unit = unit;
+      slide = slide;
+    }
+
+-- the rule bytes are those of the seven rules as 01 lists them: key, the same non-sequenced, datatype, cardinality, datatype and distinct
+-- cardinality non-sequenced, reference to rule 0
+pub rules-listed : rulesOf bankRules ≡ (
+    onMixers 1 0 0 3 65535 (pos 0) (pos 0) 0 36525 0 0 0
+    ∷ onMixers 1 1 0 3 65535 (pos 0) (pos 0) 0 36525 0 0 0
+    ∷ onMixers 5 0 0 4 65535 (pos 0) (pos 9999) 0 36525 0 0 0
+    ∷ onMixers 4 0 0 4 65535 (pos 1) (pos 1) 0 36525 0 0 0
+    ∷ onMixers 5 1 0 4 65535 (negsuc 499) (pos 500) 0 36525 0 0 0
+    ∷ onMixers 4 1 1 4 65535 (pos 1) (pos 1) 100 500 100 1 100
+    ∷ onMixers 3 0 0 3 0 (pos 0) (pos 0) 0 36525 0 0 0
     ∷ []
     )
-unfolding opened bankNodes
-bank-listed = refl
+unfolding opened bankRules
+rules-listed = refl
+
+-- and are what is written of them
+pub rules-written : table (
+    rule 1 0 (1 ∷ 2 ∷ []) 3
+    ∷ rule 1 1 (1 ∷ 2 ∷ []) 3
+    ∷ between (pos 0) (pos 9999) (rule 5 0 (1 ∷ 2 ∷ []) 4)
+    ∷ between (pos 1) (pos 1) (rule 4 0 (1 ∷ 2 ∷ []) 4)
+    ∷ between (negsuc 499) (pos 500) (rule 5 1 (1 ∷ 2 ∷ []) 4)
+    ∷ distinct (days 100 100 (during 100 500 (between (pos 1) (pos 1) (rule 4 1 (1 ∷ 2 ∷ []) 4))))
+    ∷ to 0 (rule 3 0 (1 ∷ 2 ∷ []) 3)
+    ∷ []
+    ) ≡ bankRules
+unfolding opened written bankRules
+rules-written = refl
+
+-- outcome, number, place, day, offender, count
+abbrev tells : ℕ → ℕ → ℕ → ℕ → ℕ → ℕ → Told
+tells outcome number place day offender count =
+    record { outcome = outcome; number = number; place = place; day = day; offender = offender; count = count }
+
+-- each kind of answer in 01's numbers
+pub told-examples :
+    (tellVerdict (Holds 4)
+    ∷ tellVerdict (Fails 200 3 5)
+    ∷ tellVerdict (Unjudged 26 6)
+    ∷ tellListed (Stored 4)
+    ∷ tellListed (Unlisted 9 8)
+    ∷ tellReading Accepted
+    ∷ tellReading (Refused 7 5)
+    ∷ [])
+    ≡ (tells 0 0 0 0 0 4
+    ∷ tells 1 0 0 200 3 5
+    ∷ tells 2 26 6 0 0 0
+    ∷ tells 0 0 0 0 0 4
+    ∷ tells 2 9 8 0 0 0
+    ∷ tells 0 0 0 0 0 0
+    ∷ tells 2 7 5 0 0 0
+    ∷ [])
+unfolding opened
+told-examples = refl

@@ -38,8 +38,16 @@ pub mod Windows
 pub mod Hops
 pub mod Asking
 pub mod Decoded
+pub mod Pinning
 pub mod Opened
 pub mod ImageBytes
+pub mod Writing
 pub mod Examples
+pub mod PinnedImages
+pub mod PinnedNodes
+pub mod PinnedRules
+pub mod PinnedDays
+pub mod PinnedWindows
+pub mod Pinned
 pub mod Unique
 pub mod Theorems
