@@ -7,7 +7,6 @@ use lib.ListN.{length}
 use borrow.Author.Tests.{lt-ltb, le-ltb}
 use Rattle.meaning.specs.declared.Verdict.{Verdict}
 use Rattle.meaning.specs.declared.Verdict.the-variants.{Refused}
-use Rattle.meaning.specs.declared.Reading.{Reading}
 use Rattle.meaning.specs.declared.Reading.the-variants as reading
 use Rattle.meaning.specs.Nodes.{docOf, readNodes}
 use Rattle.meaning.specs.Rules.{ruleAt, rulesOf, readRules}
@@ -55,9 +54,9 @@ module _ (image rules : List ℕ) (k : ℕ) {c : Columns} (u : Unpacks image c) 
     accepted : readNodes image ≡ reading.Accepted
     accepted = held-image image (u .answer) (sym ex ∙ r) .accepted
 
-    pub rules-refused : {y : Reading} {a b : ℕ} → y ≡ readRules rules → y ≡ reading.Refused a b → Right (Refused a b)
+    pub rules-refused : {a b : ℕ} → readRules rules ≡ reading.Refused a b → Right (Refused a b)
     unfolding verdict readVerdict
-    rules-refused e f = rw (accepted, sym e ∙ f)
+    rules-refused f = rw (accepted, f)
 
     module _ (a : readRules rules ≡ reading.Accepted) {m : ℕ} (t : Table rules m) where
       pub no-rule : m ≤ k → Right (Refused 11 0)

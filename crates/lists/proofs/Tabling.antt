@@ -16,7 +16,8 @@ use Rattle.meaning.specs.Document.{Doc}
 use Rattle.meaning.specs.Rules.{isReference, ruleAt, rulesOf, readRules}
 use Rattle.meaning.specs.Day.{changeDays}
 use Rattle.meaning.specs.Answer.{referredBy, storing, lentAfter}
-use Rattle.rules.specs.Table.{Table}
+use Rattle.rules.specs.Table.{Table, referredOr}
+use Rattle.rules.proofs.Tables.{refers-to}
 use Rattle.lists.specs.Lending.{readTurning, turningDays}
 
 module _ (rules : List ℕ) (k : ℕ) where
@@ -24,9 +25,9 @@ module _ (rules : List ℕ) (k : ℕ) where
   rs = rulesOf rules
 
   -- refused by the table
-  pub table-refused : {y : Reading} {a b : ℕ} → y ≡ readRules rules → y ≡ reading.Refused a b → (list lent : List ℕ) → Refused a b ≡ storing (readTurning rules k) list lent
+  pub table-refused : {a b : ℕ} → readRules rules ≡ reading.Refused a b → (list lent : List ℕ) → Refused a b ≡ storing (readTurning rules k) list lent
   unfolding storing
-  table-refused e r list lent = rw (sym e ∙ r)
+  table-refused r list lent = rw r
 
   module _ (a : readRules rules ≡ reading.Accepted) where
     -- no such rule
@@ -49,7 +50,7 @@ module _ (rules : List ℕ) (k : ℕ) where
             let s : eqb (ruleAt rs k .windowed) 0 ≡ false = ne-eqb _ 0 (λ e. w (windowed ∙ e)) in
             rw (a, lt-ltb k (length rs) table-here, s)
 
-        module _ (s : r .windowed ≡ 0) {q : Rule} (eq : isReference (ruleAt rs k) ≡ true → q ≡ referredBy rs k) (doc : Doc) (lent : List ℕ) where
+        module _ (s : r .windowed ≡ 0) {q : Rule} (eq : q ≡ referredOr rs k) (doc : Doc) (lent : List ℕ) where
           read : readTurning rules k ≡ reading.Accepted
           read =
               let w : eqb (ruleAt rs k .windowed) 0 ≡ true = eq-eqb _ 0 (sym windowed ∙ s) in
@@ -57,7 +58,7 @@ module _ (rules : List ℕ) (k : ℕ) where
 
           -- a reference refers to q
           same : isReference r ≡ true → referredBy rs k ≡ q
-          same e = sym (eq (ap isReference (sym er) ∙ e))
+          same e = sym (refers-to rs k eq (ap isReference (sym er) ∙ e))
 
           pub table-listed : {x : Listed} → ((p : Rule) → (isReference r ≡ true → p ≡ q) → x ≡ storing reading.Accepted (changeDays doc p r) lent)
               → x ≡ storing (readTurning rules k) (turningDays doc rules k) lent

@@ -6,7 +6,6 @@ use native.Mathlib.Numerals.{add-one}
 use native.Mathlib.Omega.{arith}
 use lib.ListN.{length}
 use Rattle.meaning.specs.declared.Verdict.{Verdict}
-use Rattle.meaning.specs.declared.Reading.{Reading}
 use Rattle.meaning.specs.declared.Reading.the-variants as reading
 use Rattle.meaning.specs.Rules.{rulesOf, readRules}
 use Rattle.meaning.specs.Answer.{verdict}
@@ -46,9 +45,9 @@ module _ {nodes : List ℕ} (rules : List ℕ) {c : Columns} (u : Unpacks nodes 
   refused-nodes e = rw (refused-image nodes (u .answer) e) refl
 
   module _ {n : ℕ} (e : c .loaded ≡ Nodes n) where
-    pub refused-rules : {y : Reading} → y ≡ readRules rules → {a b : ℕ} → y ≡ reading.Refused a b → refusedLine a b ≡ reportOf nodes rules
+    pub refused-rules : {a b : ℕ} → readRules rules ≡ reading.Refused a b → refusedLine a b ≡ reportOf nodes rules
     unfolding reportOf lineOr
-    refused-rules s t = rw (held-image nodes (u .answer) e .accepted, sym s ∙ t) refl
+    refused-rules t = rw (held-image nodes (u .answer) e .accepted, t) refl
 
     pub accepted-both : readRules rules ≡ reading.Accepted → header ++ ruleLines (verdict nodes rules) 0 (length (rulesOf rules)) ≡ reportOf nodes rules
     unfolding reportOf lineOr

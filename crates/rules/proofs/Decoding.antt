@@ -14,8 +14,10 @@ use Rattle.meaning.specs.Bytes.{byte, two, four, signed}
 use Rattle.meaning.specs.Order.{need, andThen}
 use Rattle.meaning.specs.Block.{allZero}
 use Rattle.meaning.specs.Rules.{ruleIn, spareIn, ruleFields}
+use Rattle.rules.specs.declared.decode.Numbers.{Numbers}
+use Rattle.rules.specs.declared.decode.Decoded.{Decoded}
 use Rattle.rules.specs.declared.decode.Decoded.the-variants.{Sound, Refused}
-use Rattle.rules.specs.Table.{decodedIn, said}
+use Rattle.rules.specs.Decoding.{numbersOf, decodedIn, said}
 
 module _ (s : List ℕ) where
   pub names : {a b c d e f g h : ℕ} → a ≡ two s 2 → b ≡ two s 4 → c ≡ two s 6 → d ≡ two s 8 → e ≡ two s 10 → f ≡ two s 12 → g ≡ two s 14 → h ≡ two s 16
@@ -56,16 +58,30 @@ module _ (s : List ℕ) where
       unfolding decodedIn
       breaks-table p = rw (← ez, not-false z zeroed, ← ef, not-true f p)
 
-      pub sound : not f ≡ false → Sound ≡ decodedIn s
+      pub sound : {x : Numbers} → not f ≡ false → x ≡ numbersOf (ruleIn s) → Sound x ≡ decodedIn s
       unfolding decodedIn
-      sound p = rw (← ez, not-false z zeroed, ← ef, not-false f p)
+      sound p ex = rw (← ez, not-false z zeroed, ← ef, not-false f p, ex)
 
--- 24 ahead of 25, at record k
-by-both : (z f : Bool) (k : ℕ) → said (cond z (cond f Sound (Refused 25)) (Refused 24)) k ≡ andThen (need z 24 k) (need f 25 k)
-by-both true true k = refl
-by-both true false k = refl
-by-both false f k = refl
+-- 24 ahead of 25, at record k; and what is decoded is what was read
+module _ (x : Numbers) where
+  abbrev both : Bool → Bool → Decoded
+  both z f = cond z (cond f (Sound x) (Refused 25)) (Refused 24)
 
-pub in-order : (s : List ℕ) (k : ℕ) → said (decodedIn s) k ≡ andThen (need (spareIn s) 24 k) (need (ruleFields (ruleIn s)) 25 k)
-unfolding decodedIn
-in-order s k = by-both (spareIn s) (ruleFields (ruleIn s)) k
+  by-both : (z f : Bool) (k : ℕ) → said (both z f) k ≡ andThen (need z 24 k) (need f 25 k)
+  by-both true true k = refl
+  by-both true false k = refl
+  by-both false f k = refl
+
+  none-else : (z f : Bool) {y : Numbers} → both z f ≡ Sound y → y ≡ x
+  none-else true true e = cc
+  none-else true false e = cc
+  none-else false f e = cc
+
+module _ (s : List ℕ) where
+  pub in-order : (k : ℕ) → said (decodedIn s) k ≡ andThen (need (spareIn s) 24 k) (need (ruleFields (ruleIn s)) 25 k)
+  unfolding decodedIn
+  in-order k = by-both (numbersOf (ruleIn s)) (spareIn s) (ruleFields (ruleIn s)) k
+
+  pub taken : {y : Numbers} → decodedIn s ≡ Sound y → y ≡ numbersOf (ruleIn s)
+  unfolding decodedIn
+  taken e = none-else (numbersOf (ruleIn s)) (spareIn s) (ruleFields (ruleIn s)) e

@@ -6,7 +6,7 @@ use mathlib.Core.List.{List}
 use Prim.Native.Nat.{ℕ, _≤_, _<_}
 use native.Mathlib.Nat.{zero-add}
 use native.Mathlib.Omega.{arith}
-use borrow.Author.Tests.{eqb-true, eq-eqb}
+use borrow.Author.Tests.{eqb-true, eq-eqb, ne-eqb}
 use lib.ListN.{length}
 use Rattle.meaning.specs.declared.Rule.{Rule}
 use Rattle.meaning.specs.declared.Reading.the-variants.{Accepted}
@@ -21,7 +21,7 @@ use Rattle.meaning.proofs.Orders.{then-accepted}
 use Rattle.meaning.proofs.Walks.{length-listed, getD-listed}
 use Rattle.block.specs.Fair.{Fair, Read, Counted, Inside}
 use Rattle.block.proofs.Places.{count-all}
-use Rattle.rules.specs.Table.{Table, Row}
+use Rattle.rules.specs.Table.{Table, Row, referredOr}
 
 -- the form of a rule image is one that the reader of blocks takes
 fair : Fair ruleForm
@@ -68,6 +68,18 @@ accepted-few image a =
     let t = counted (accepted-blocks image a) (count-all read refl refl) in
     omega (arith, t .count, t .few)
 
+-- the rule that rule k refers to, else itself
+module _ (rs : List Rule) (k : ℕ) where
+  pub refers-to : {q : Rule} → q ≡ referredOr rs k → isReference (ruleAt rs k) ≡ true → q ≡ referredBy rs k
+  refers-to e t = e ∙ rw t
+
+  module _ {r : Rule} (e : r ≡ ruleAt rs k) where
+    pub itself : (r .kind ≡ 3 → ⊥) → r ≡ referredOr rs k
+    itself n = rw (← e, ne-eqb (r .kind) 3 n)
+
+    pub the-other : {q : Rule} → r .kind ≡ 3 → q ≡ ruleAt rs (r .referred) → q ≡ referredOr rs k
+    the-other t eq = rw (← e, eq-eqb (r .kind) 3 t) eq
+
 -- a rule of a table that was accepted
 module _ (image : List ℕ) (a : readRules image ≡ Accepted) (k : ℕ) (h : k < length (rulesOf image)) where
   pub accepted-row : Row image k
@@ -86,12 +98,9 @@ module _ (image : List ℕ) (a : readRules image ≡ Accepted) (k : ℕ) (h : k 
     pub fields-of : ruleFields r ≡ true
     fields-of = rw e accepted-fields
 
-    pub fields-referred : {q : Rule} → (isReference (ruleAt (rulesOf image) k) ≡ true → q ≡ referredBy (rulesOf image) k) → isReference r ≡ true → (ruleFields q ≡ true) × ((isKey q || isUnique q) ≡ true)
-    fields-referred {q} eq t =
+    pub fields-referred : {q : Rule} → q ≡ referredOr (rulesOf image) k → isReference r ≡ true → (ruleFields q ≡ true) × ((isKey q || isUnique q) ≡ true)
+    fields-referred eq t =
         let y : isReference (ruleAt (rulesOf image) k) ≡ true = ap isReference (sym e) ∙ t in
         let to = rules-sound image a .referred k h (eqb-true _ 3 y) in
         let p = referredBy (rulesOf image) k in
-        rw (eq y) (rule-row p .1 (rules-sound image a .table (ruleAt (rulesOf image) k .referred) (to .0)), ⊎-elim (λ one. or-l (isKey p) _ (eq-eqb _ 1 one)) (λ two. or-r (isKey p) _ (eq-eqb _ 2 two)) (to .1))
-
-    pub no-reference : (r .kind ≡ 3 → ⊥) → isReference (ruleAt (rulesOf image) k) ≡ true → ⊥
-    no-reference n t = n (ap (λ (x : Rule). x .kind) e ∙ eqb-true _ 3 t)
+        rw (refers-to (rulesOf image) k eq y) (rule-row p .1 (rules-sound image a .table (ruleAt (rulesOf image) k .referred) (to .0)), ⊎-elim (λ one. or-l (isKey p) _ (eq-eqb _ 1 one)) (λ two. or-r (isKey p) _ (eq-eqb _ 2 two)) (to .1))

@@ -1,7 +1,7 @@
--- Walks as a loop goes through them: at number k of n, one step on, where it stops, and past the last number.
-use mathlib.Core.Path.{_≡_}
+-- Walks as a loop goes through them: at number k of n, one step on, where it stops, and past the last number; and two walks that agree.
+use mathlib.Core.Path.{_≡_, refl}
 use mathlib.Core.Bool.{Bool, true, false}
-use Prim.Native.Nat.{ℕ, suc, _+_, _-_, _≤_, _<_}
+use Prim.Native.Nat.{ℕ, zero, suc, _+_, _-_, _≤_, _<_}
 use native.Mathlib.Numerals.{add-one}
 use native.Mathlib.Omega.{arith}
 use Rattle.meaning.specs.declared.Reading.{Reading}
@@ -41,3 +41,9 @@ module _ (f : ℕ → Reading) (n k : ℕ) where
   pub earliest-ends : n ≤ k → Accepted ≡ earliest f k (n - k)
   unfolding earliest
   earliest-ends h = rw (over n k h)
+
+-- two walks that say the same at each number
+pub earliest-same : (f g : ℕ → Reading) (i n : ℕ) → ((k : ℕ) → k < i + n → f k ≡ g k) → earliest f i n ≡ earliest g i n
+unfolding earliest
+earliest-same f g i zero h = refl
+earliest-same f g i (suc n) h = rw (h i (omega arith), earliest-same f g (suc i) n (λ k l. h k (omega arith)))

@@ -5,17 +5,33 @@ ghost use lib.ListN.{length};
 ghost use Rattle.meaning.specs.Walk.{listed};
 ghost use Rattle.meaning.specs.Bytes.{two};
 ghost use Rattle.meaning.specs.Rules.{ruleIn, spareIn};
-ghost use Rattle.rules.specs.Table.{decodedIn, said};
+ghost use Rattle.rules.specs.Decoding.{numbersOf, decodedIn, said};
 use crate::fields::rule_fields;
 use meaning::Reading;
 use meaning::Rule;
 use numbers::signed_at;
 use numbers::two_at;
 
-// Whether a record decodes: sound, or the number of its refusal. The rule stands beside it, in `rule_in`: the prover does
-// not cover an enum that holds a struct with an array in it.
+// The numbers of a rule apart from its path, which is an array: to prove a function over an enum that holds one is dear.
+pub struct Numbers {
+    pub kind: u8,
+    pub windowed: u8,
+    pub steps: u8,
+    pub distinct: u8,
+    pub field: u16,
+    pub referred: u16,
+    pub low: i32,
+    pub high: i32,
+    pub begin: u16,
+    pub end: u16,
+    pub span: u16,
+    pub unit: u8,
+    pub slide: u16,
+}
+
+// What comes of one record by itself: its numbers, or the number of the test that it fails.
 pub enum Decoded {
-    Sound,
+    Sound(Numbers),
     Refused(usize),
 }
 
@@ -68,6 +84,27 @@ fn spare_in(part: &[u8]) -> bool
     (part[39] == 0) & block::all_zero(&part[42..50])
 }
 
+// A rule's numbers.
+fn numbers_of(rule: Rule) -> Numbers
+    ensures { λ r. ⌜ r ≡ numbersOf rule ⌝ }
+{
+    Numbers {
+        kind: rule.kind,
+        windowed: rule.windowed,
+        steps: rule.steps,
+        distinct: rule.distinct,
+        field: rule.field,
+        referred: rule.referred,
+        low: rule.low,
+        high: rule.high,
+        begin: rule.begin,
+        end: rule.end,
+        span: rule.span,
+        unit: rule.unit,
+        slide: rule.slide,
+    }
+}
+
 // The tests of one record: its zeros (24), then its table (25).
 pub fn decode(part: &[u8]) -> Decoded
     requires { ⌜ length (now part) ≡ 50 ⌝ }
@@ -76,10 +113,11 @@ pub fn decode(part: &[u8]) -> Decoded
     if !spare_in(part) {
         return Decoded::Refused(24);
     }
-    if !rule_fields(rule_in(part)) {
+    let rule = rule_in(part);
+    if !rule_fields(rule) {
         return Decoded::Refused(25);
     }
-    Decoded::Sound
+    Decoded::Sound(numbers_of(rule))
 }
 
 // What that says of record k of a table.
@@ -87,7 +125,7 @@ pub fn placed(d: Decoded, k: usize) -> Reading
     ensures { λ r. ⌜ r ≡ said d k ⌝ }
 {
     match d {
-        Decoded::Sound => Reading::Accepted,
+        Decoded::Sound(_) => Reading::Accepted,
         Decoded::Refused(number) => Reading::Refused(number, k),
     }
 }

@@ -1,5 +1,6 @@
 -- `bank::verdict` meets its contract: a way out for each refusal, and the verdict on the rule.
-use mathlib.Core.Path.{refl, sym, _∙_}
+use mathlib.Core.Path.{refl}
+use Rattle.rules.proofs.Promised.{read-as}
 use Rattle.bank.proofs.Asked.{nodes-refused, rules-refused, no-rule, rule-here, rule-judged}
 use borrow.Author.Needs.{needs}
 use Rattle.bank.proofs.verdict.Statement.{statement}
@@ -31,21 +32,20 @@ enum-known-read c = search needs
 returns-2 : tie.Need-returns-2
 returns-2 c =
     let a = c .before .before .before .before .before .before .before .before .before .before .args in
-    rules-refused (a .nodes .now) (a .rules .now) (a .rule) (c .before .before .before .before .before .before .before .read-columns .ensures) refl (c .before .before .before .before .before .loaded .given .1) (c .before .before .before .read-rules .ensures) (c .before .read .given .1)
+    rules-refused (a .nodes .now) (a .rules .now) (a .rule) (c .before .before .before .before .before .before .before .read-columns .ensures) refl (c .before .before .before .before .before .loaded .given .1) (read-as (a .rules .now) (c .before .read .given .1) (c .before .before .before .read-rules .ensures))
 
 enum-told-2 : tie.Need-enum-told-2
 enum-told-2 c = search needs
 
 count-rules-requires : tie.Need-count-rules-requires
-count-rules-requires c κs =
-    sym (c .before .before .read-rules .ensures) ∙ c .enum-told2 .given .1
+count-rules-requires c κs = read-as _ (c .enum-told2 .given .1) (c .before .before .read-rules .ensures)
 
 returns-3 : tie.Need-returns-3
 returns-3 c =
     let a = c .before .before .before .before .before .before .before .before .before .before .before .args in
     let columns = c .before .before .before .before .before .before .before .before .read-columns .ensures in
     let here = c .before .before .before .before .before .before .loaded .given .1 in
-    let ok = sym (c .before .before .before .before .read-rules .ensures) ∙ c .before .before .enum-told2 .given .1 in
+    let ok = read-as (a .rules .now) (c .before .before .enum-told2 .given .1) (c .before .before .before .before .read-rules .ensures) in
     let table = c .before .count-rules .ensures in
     no-rule (a .nodes .now) (a .rules .now) (a .rule) columns refl here ok table (c .if1 .taken)
 
@@ -54,7 +54,7 @@ judge-requires c κs =
     let a = c .before .before .before .before .before .before .before .before .before .before .before .args in
     let columns = c .before .before .before .before .before .before .before .before .read-columns .ensures in
     let here = c .before .before .before .before .before .before .loaded .given .1 in
-    let ok = sym (c .before .before .before .before .read-rules .ensures) ∙ c .before .before .enum-told2 .given .1 in
+    let ok = read-as (a .rules .now) (c .before .before .enum-told2 .given .1) (c .before .before .before .before .read-rules .ensures) in
     let table = c .before .count-rules .ensures in
     ((a .nodes .now, columns, here), ok, rule-here (a .nodes .now) (a .rules .now) (a .rule) columns refl here ok table (c .if1 .left))
 
@@ -63,7 +63,7 @@ returns-4 c =
     let a = c .before .before .before .before .before .before .before .before .before .before .before .before .args in
     let columns = c .before .before .before .before .before .before .before .before .before .read-columns .ensures in
     let here = c .before .before .before .before .before .before .before .loaded .given .1 in
-    let ok = sym (c .before .before .before .before .before .read-rules .ensures) ∙ c .before .before .before .enum-told2 .given .1 in
+    let ok = read-as (a .rules .now) (c .before .before .before .enum-told2 .given .1) (c .before .before .before .before .before .read-rules .ensures) in
     let table = c .before .before .count-rules .ensures in
     rule-judged (a .nodes .now) (a .rules .now) (a .rule) columns refl here ok table (c .before .if1 .left) (c .judge .ensures _ columns here)
 

@@ -1,6 +1,6 @@
 -- `readings::report` is safe and ends: rules are counted only where the table was accepted.
-use mathlib.Core.Path.{sym, _∙_}
 use borrow.Author.Needs.{needs}
+use Rattle.rules.proofs.Promised.{read-as}
 use Rattle.readings.proofs.report.Statement.{statement}
 use Rattle.readings.proofs.report.Tie as tie
 use Rattle.readings.proofs.report.Reads as reads
@@ -36,7 +36,7 @@ enum-told : tie.Need-enum-told
 enum-told c = search needs
 
 count-rules-requires : tie.Need-count-rules-requires
-count-rules-requires c κs = sym (c .before .before .read-rules .ensures) ∙ c .enum-told .given .1
+count-rules-requires c κs = read-as _ (c .enum-told .given .1) (c .before .before .read-rules .ensures)
 
 accepted-requires : tie.Need-accepted-requires
 accepted-requires c κs = search needs

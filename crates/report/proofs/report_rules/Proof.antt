@@ -1,5 +1,5 @@
 -- `report::report_rules` meets its contract: the rules' refusal, or the table.
-use mathlib.Core.Path.{sym, _∙_}
+use Rattle.rules.proofs.Promised.{read-as}
 use Rattle.spelling.proofs.Pieces.{puts-as}
 use Rattle.report.proofs.Texts.{refused-rules}
 use borrow.Author.Needs.{needs}
@@ -19,7 +19,7 @@ enum-told : tie.Need-enum-told
 enum-told c = search needs
 
 put-table-requires : tie.Need-put-table-requires
-put-table-requires c κs = let p = c .before .before .before .before .before .before .before .pre in (p .0, p .1, sym (c .before .before .before .read-rules .ensures) ∙ c .before .enum-told .given .1)
+put-table-requires c κs = let p = c .before .before .before .before .before .before .before .pre in (p .0, p .1, read-as _ (c .before .enum-told .given .1) (c .before .before .before .read-rules .ensures))
 
 same-length : tie.Need-same-length
 same-length c = search needs
@@ -27,7 +27,7 @@ same-length c = search needs
 returns : tie.Need-returns
 returns c =
     let p = c .before .before .before .before .before .before .before .before .before .before .before .pre in
-    puts-as (c .before .before .put-refusal .ensures) (refused-rules _ (p .0) (p .1) (c .before .before .before .before .before .before .before .read-rules .ensures) (c .before .before .before .before .before .read .given .1))
+    puts-as (c .before .before .put-refusal .ensures) (refused-rules _ (p .0) (p .1) (read-as _ (c .before .before .before .before .before .read .given .1) (c .before .before .before .before .before .before .before .read-rules .ensures)))
 
 same-length-2 : tie.Need-same-length-2
 same-length-2 c = search needs

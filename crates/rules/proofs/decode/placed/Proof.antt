@@ -2,7 +2,7 @@
 use mathlib.Core.Path.{sym, ap}
 use borrow.Author.Needs.{needs}
 use Rattle.rules.specs.declared.decode.Decoded.{Decoded}
-use Rattle.rules.specs.Table.{said}
+use Rattle.rules.specs.Decoding.{said}
 use Rattle.rules.proofs.decode.placed.Statement.{statement}
 use Rattle.rules.proofs.decode.placed.Tie as tie
 

@@ -1,4 +1,4 @@
--- `rules::read_references` meets its contract. The invariant: the references from k on give the answer on them all.
+-- `rules::references::read_references` meets its contract. The invariant: the references from k on give the answer on them all.
 use mathlib.Core.Path.{_≡_, _∙_}
 use Prim.Native.Nat.{_-_, _≤_}
 use native.Mathlib.Nat.{sub-zero}
@@ -6,14 +6,14 @@ use borrow.Author.Needs.{needs}
 use Rattle.meaning.specs.Order.{earliest}
 use Rattle.rules.proofs.Walked.{earliest-ends}
 use Rattle.rules.proofs.Answers.{refers, refers-on, refers-stops}
-use Rattle.rules.proofs.read_references.Statement.{statement}
-use Rattle.rules.proofs.read_references.Tie as tie
+use Rattle.rules.proofs.references.read_references.Statement.{statement}
+use Rattle.rules.proofs.references.read_references.Tie as tie
 
 abbrev Inv-loop : tie.InvT-loop
-Inv-loop image n k₀ k = (k ≤ n) × (earliest (refers image) k (n - k) ≡ earliest (refers image) 0 n)
+Inv-loop kind referred n k₀ k = (k ≤ n) × (earliest (refers kind referred n) k (n - k) ≡ earliest (refers kind referred n) 0 n)
 
 abbrev μ-loop : tie.MeasureT-loop
-μ-loop image n k₀ k = n - k
+μ-loop kind referred n k₀ k = n - k
 
 loop-holds : tie.Need-loop-holds Inv-loop μ-loop
 loop-holds c = (search needs, rw sub-zero)
@@ -25,8 +25,7 @@ returns : tie.Need-returns Inv-loop μ-loop
 returns c =
     let w = c .before in
     let l = w .before .before in
-    let a = l .before .before .args in
-    refers-stops (a .image .now) (a .n) (l .loop .k) (w .before .loop-test .taken) (w .refers-well .ensures) (c .if1 .taken) ∙ l .loop .inv .1
+    refers-stops _ _ _ _ (w .before .loop-test .taken) (w .refers-well .ensures) (c .if1 .taken) ∙ l .loop .inv .1
 
 add-k : tie.Need-add-k Inv-loop μ-loop
 add-k c = search needs
@@ -38,13 +37,10 @@ loop-again : tie.Need-loop-again Inv-loop μ-loop
 loop-again c =
     let w = c .before in
     let l = w .before .before in
-    let a = l .before .before .args in
-    (search needs, refers-on (a .image .now) (a .n) (l .loop .k) (w .before .loop-test .taken) (w .refers-well .ensures) (c .if1 .left) ∙ l .loop .inv .1)
+    (search needs, refers-on _ _ _ _ (w .before .loop-test .taken) (w .refers-well .ensures) (c .if1 .left) ∙ l .loop .inv .1)
 
 returns-2 : tie.Need-returns-2 Inv-loop μ-loop
-returns-2 c =
-    let l = c .before in
-    earliest-ends (refers (l .before .before .args .image .now)) (l .before .before .args .n) (l .loop .k) (c .loop-test .left) ∙ l .loop .inv .1
+returns-2 c = let l = c .before in earliest-ends _ _ _ (c .loop-test .left) ∙ l .loop .inv .1
 
 pub read-references-spec : {M : Type 1} → statement M
 read-references-spec =
