@@ -15,7 +15,7 @@ use Rattle.nodes.specs.declared.Loaded.{Loaded}
 use Rattle.nodes.specs.declared.Loaded.the-variants.{Nodes, Refused as Unloaded}
 use Rattle.nodes.specs.declared.Columns.{Columns}
 use Rattle.nodes.specs.Unpacking.{Unpacks}
-use Rattle.nodes.proofs.Held.{refused-image, held-image, front-room}
+use Rattle.nodes.proofs.Held.{refused-image, held-image, size-held, whole-held, front-room}
 use Rattle.rules.specs.Table.{Table}
 use Rattle.judging.specs.Fronts.{Fronts}
 use Rattle.bank.specs.Promises.{VerdictPromise}
@@ -25,8 +25,8 @@ use Rattle.bank.specs.Refusing.{refusedAs}
 abbrev pub fronts : {image : List ℕ} {c : Columns} → Unpacks image c → {n : ℕ} → c .loaded ≡ Nodes n
     → Fronts n (c .kind) (c .vkind) (c .name) (c .parent) (c .begin) (c .end) (c .value) (c .item)
 fronts {image} u {n} e =
-    let w = u .whole n e in
-    let size = u .size n e in
+    let w = whole-held image u e in
+    let size = size-held image u e in
     record {
       kind = front-room _ (w .tree .kind) size;
       vkind = front-room _ (w .values-held .vkind) size;

@@ -59,15 +59,17 @@ pub changes-unique : (nodes rules : List ℕ) (k : ℕ) (lent : List ℕ) (x y :
 changes-unique nodes rules k lent x y after other p q = (Unique.listed-unique x y (p .0 ∙ sym (q .0)), p .1 ∙ sym (q .1))
 
 -- 1. Demand 1: every image, however damaged, gets an answer, bad input is refused by number and place, and a refusal changes no lent list.
--- `verdict` has an answer for every pair of images and every rule number, with nothing asked of them.
+-- That a call answers is no theorem about its promise: the three calls have no condition, and each is proved to return. The next three hold
+-- of any promise that names its answer, and say that it can be kept: there is an answer that `verdict` may give, for every pair of images and
+-- every rule number.
 pub verdict-answers : (nodes rules : List ℕ) (k : ℕ) → (x : Verdict) × VerdictPromise nodes rules k x
 verdict-answers nodes rules k = (_, refl)
 
--- So has `slice`, for every image, day and lent list, ..
+-- So for `slice`, with every image, day and lent list, ..
 pub slice-answers : (nodes : List ℕ) (d : ℕ) (lent : List ℕ) → (x : Listed) × (after : List ℕ) × SlicePromise nodes d lent x after
 slice-answers nodes d lent = (_, _, (refl, refl))
 
--- .. and `change_days`, for every pair of images, rule number and lent list.
+-- .. and for `change_days`, with every pair of images, rule number and lent list.
 pub changes-answers : (nodes rules : List ℕ) (k : ℕ) (lent : List ℕ) → (x : Listed) × (after : List ℕ) × ChangesPromise nodes rules k lent x after
 changes-answers nodes rules k lent = (_, _, (refl, refl))
 

@@ -14,7 +14,7 @@ use Rattle.nodes.specs.declared.Loaded.{Loaded}
 use Rattle.nodes.specs.declared.Loaded.the-variants.{Nodes, Refused as Unloaded}
 use Rattle.nodes.specs.declared.Columns.{Columns}
 use Rattle.nodes.specs.Unpacking.{Unpacks}
-use Rattle.nodes.proofs.Held.{refused-image, held-image, front-room}
+use Rattle.nodes.proofs.Held.{refused-image, held-image, size-held, whole-held, front-room}
 use Rattle.lists.specs.Lending.{refusedAs, Fronts, readTurning, turningDays}
 
 module _ (image rules : List ℕ) (k : ℕ) (lent : List ℕ) where
@@ -31,11 +31,11 @@ module _ (image rules : List ℕ) (k : ℕ) (lent : List ℕ) where
 
     module _ {n : ℕ} (r : x ≡ Nodes n) where
       w : Whole (docOf image) (take (n - 0) (c .kind)) (take (n - 0) (c .vkind)) (take (n - 0) (c .name)) (take (n - 0) (c .parent)) (take (n - 0) (c .begin)) (take (n - 0) (c .end)) (take (n - 0) (c .value)) (take (n - 0) (c .item))
-      w = u .whole n (sym ex ∙ r)
+      w = whole-held image u (sym ex ∙ r)
 
       pub changes-fronts : Fronts n (c .kind) (c .name) (c .parent) (c .begin) (c .end)
       changes-fronts =
-          let size = u .size n (sym ex ∙ r) in
+          let size = size-held image u (sym ex ∙ r) in
           record {
             kind = front-room _ (w .tree .kind) size;
             name = front-room _ (w .tree .name) size;

@@ -20,7 +20,7 @@ use Rattle.nodes.specs.declared.Loaded.{Loaded}
 use Rattle.nodes.specs.declared.Loaded.the-variants.{Nodes, Refused as Unloaded}
 use Rattle.nodes.specs.declared.Columns.{Columns}
 use Rattle.nodes.specs.Unpacking.{Unpacks}
-use Rattle.nodes.proofs.Held.{refused-image, held-image, front-room}
+use Rattle.nodes.proofs.Held.{refused-image, held-image, size-held, whole-held, front-room}
 use Rattle.lists.specs.Lending.{refusedAs}
 
 module _ (image : List ℕ) (day : ℕ) (lent : List ℕ) where
@@ -53,8 +53,8 @@ module _ (image : List ℕ) (day : ℕ) (lent : List ℕ) where
 
       pub slice-fronts : (n ≤ limit) × (n ≤ length (c .kind)) × (n ≤ length (c .begin)) × (n ≤ length (c .end))
       slice-fronts =
-          let w = u .whole n (sym ex ∙ r) in
-          let size = u .size n (sym ex ∙ r) in
+          let w = whole-held image u (sym ex ∙ r) in
+          let size = size-held image u (sym ex ∙ r) in
           (omega (arith, size, w .checked .few), front-room _ (w .tree .kind) size, front-room _ (w .periods .begin) size, front-room _ (w .periods .end) size)
 
       pub slice-late : 36524 < day → Right (Refused 11 0) lent
@@ -70,7 +70,7 @@ module _ (image : List ℕ) (day : ℕ) (lent : List ℕ) where
       unfolding readSlice
       slice-stored l {y} {out} p q =
           let doc = docOf image in
-          let w = u .whole n (sym ex ∙ r) in
+          let w = whole-held image u (sym ex ∙ r) in
           let s = accepted-slice doc (w .checked .accepted) day in
           by-list (rw (accepted, le-leb day 36524 l))
           (p doc (w .tree .kind) (w .periods) ∙ ap (λ (list : List ℕ). storing reading.Accepted list lent) (sym s))

@@ -2,4 +2,6 @@ pub mod Fills
 pub mod Fronts
 pub mod Unpacked
 pub mod Loads
+pub mod Unique
+pub mod Blanks
 pub mod Held

@@ -12,12 +12,14 @@ use Rattle.meaning.specs.declared.Reading.the-variants.{Accepted, Refused}
 use Rattle.meaning.specs.Order.{andThen, inOrder}
 use Rattle.meaning.specs.Block.{nodeForm, imageTests, records, recordOf, blocks}
 use Rattle.meaning.specs.Nodes.{nodeIn, nodesOf, docOf, accept, readNodes}
+use Rattle.meaning.specs.Answer.{tellReading}
 use Rattle.meaning.proofs.Orders.{then-accepted}
+use Rattle.meaning.proofs.Unique.{reading-unique}
 use Rattle.meaning.proofs.Says.{says}
 use Rattle.meaning.proofs.Walks.{length-listed}
 use Rattle.nodes.specs.declared.Loaded.the-variants.{Nodes, Refused as Unloaded}
 use Rattle.nodes.specs.Filled.{filled, Roomy}
-use Rattle.nodes.specs.Loading.{roomy, loading}
+use Rattle.nodes.specs.Loading.{roomy, tellLoaded, loading}
 use Rattle.nodes.proofs.Unpacked.{field-listed}
 
 module _ (image : List ℕ) {x : Reading} (ex : x ≡ inOrder (imageTests nodeForm image)) where
@@ -40,27 +42,34 @@ pub counted : (image : List ℕ) (n : ℕ) → n ≡ records nodeForm image → 
 unfolding nodesOf
 counted image n e = length-listed (λ i. nodeIn (recordOf nodeForm image i)) 0 (records nodeForm image) ∙ sym e
 
-module _ (image : List ℕ) (a b c d e f g h : ℕ) {x : Reading} (ex : x ≡ readNodes image) where
-  -- refused as the image is
-  pub as-image : {k p : ℕ} → x ≡ Refused k p → Unloaded k p ≡ loading image a b c d e f g h
-  unfolding loading
-  as-image r = rw (sym ex ∙ r)
+module _ (image : List ℕ) {x : Reading} (told : tellReading x ≡ tellReading (readNodes image)) where
+  ex : x ≡ readNodes image
+  ex = reading-unique x (readNodes image) told
 
-  module _ (ax : x ≡ Accepted) (n : ℕ) (en : n ≡ records nodeForm image) {w : Bool} (ew : w ≡ roomy n a b c d e f g h) where
-    -- refused with 12, or unpacked
-    pub no-room : not w ≡ true → Unloaded 12 0 ≡ loading image a b c d e f g h
+  pub read-good : x ≡ Accepted → inOrder (imageTests nodeForm image) ≡ Accepted
+  read-good a = blocks-good image (sym ex ∙ a)
+
+  module _ (a b c d e f g h : ℕ) where
+    -- refused as the image is
+    pub as-image : {k p : ℕ} → x ≡ Refused k p → tellLoaded (Unloaded k p) ≡ tellLoaded (loading image a b c d e f g h)
     unfolding loading
-    no-room t = rw (sym ex ∙ ax, counted image n en, sym ew ∙ not-true w t)
+    as-image r = rw (sym ex ∙ r)
 
-    pub with-room : not w ≡ false → Nodes n ≡ loading image a b c d e f g h
-    unfolding loading
-    with-room t = rw (sym ex ∙ ax, counted image n en, sym ew ∙ not-false w t)
+    module _ (ax : x ≡ Accepted) (n : ℕ) (en : n ≡ records nodeForm image) {w : Bool} (ew : w ≡ roomy n a b c d e f g h) where
+      -- refused with 12, or unpacked
+      pub no-room : not w ≡ true → tellLoaded (Unloaded 12 0) ≡ tellLoaded (loading image a b c d e f g h)
+      unfolding loading
+      no-room t = rw (sym ex ∙ ax, counted image n en, sym ew ∙ not-true w t)
 
-    -- and there is room for all eight
-    pub room-for : n ≤ 25 * blocks image → not w ≡ false → Roomy image n a b c d e f g h
-    room-for inside t =
-        let p = simp says at (sym ew ∙ not-false w t) in
-        record { inside = inside; kind = omega arith; vkind = omega arith; name = omega arith; parent = omega arith; begin = omega arith; end = omega arith; value = omega arith; item = omega arith }
+      pub with-room : not w ≡ false → tellLoaded (Nodes n) ≡ tellLoaded (loading image a b c d e f g h)
+      unfolding loading
+      with-room t = rw (sym ex ∙ ax, counted image n en, sym ew ∙ not-false w t)
+
+      -- and there is room for all eight
+      pub room-for : n ≤ 25 * blocks image → not w ≡ false → Roomy image n a b c d e f g h
+      room-for inside t =
+          let p = simp says at (sym ew ∙ not-false w t) in
+          record { inside = inside; kind = omega arith; vkind = omega arith; name = omega arith; parent = omega arith; begin = omega arith; end = omega arith; value = omega arith; item = omega arith }
 
 -- a column filled with a field holds it for every record, and past them what it held
 pub field-column : (image : List ℕ) (n : ℕ) → n ≡ records nodeForm image → {A : Type 0} (field : Node → A) (old out : List A)

@@ -9,6 +9,7 @@ use Rattle.meaning.specs.declared.Reading.{Reading}
 use Rattle.meaning.specs.declared.Reading.the-variants.{Accepted, Refused}
 use Rattle.meaning.specs.Order.{need, andThen}
 use Rattle.meaning.specs.Nodes.{nodesOf, readNodes}
+use Rattle.meaning.specs.Answer.{Told}
 use Rattle.nodes.specs.declared.Loaded.{Loaded}
 use Rattle.nodes.specs.declared.Loaded.the-variants.{Nodes, Refused as Unloaded}
 
@@ -20,6 +21,11 @@ roomy n a b c d e f g h = leb n a && leb n b && leb n c && leb n d && leb n e &&
 abbrev pub loaded : Reading → ℕ → Loaded
 loaded Accepted n = Nodes n
 loaded (Refused number place) n = Unloaded number place
+
+-- 01's number and values of an answer, told as of a list: 0 with how many records, or 2, refused, with number and place
+unfoldable pub tellLoaded : Loaded → Told
+tellLoaded (Nodes n) = record { outcome = 0; number = 0; place = 0; day = 0; offender = 0; count = n }
+tellLoaded (Unloaded x i) = record { outcome = 2; number = x; place = i; day = 0; offender = 0; count = 0 }
 
 -- the image's own refusal, then 12 where one of eight columns of these lengths is too short
 unfoldable pub loading : List ℕ → ℕ → ℕ → ℕ → ℕ → ℕ → ℕ → ℕ → ℕ → Loaded

@@ -3,14 +3,14 @@ use meaning::Reading;
 ghost use mathlib.Core.Path.{_≡_};
 ghost use lib.ListN.{length, take};
 ghost use Rattle.meaning.specs.Document.{columns};
-ghost use Rattle.document.specs.Columns.{limit};
 ghost use Rattle.meaning.specs.declared.Node.{Node};
 ghost use Rattle.meaning.specs.Nodes.{accept, readNodes};
 ghost use Rattle.meaning.specs.Bytes.{byte, two, four, signed};
 ghost use Rattle.meaning.specs.Block.{nodeForm, recordOf};
+ghost use Rattle.meaning.specs.Answer.{tellReading};
 ghost use Rattle.nodes.specs.Filled.{filled, Roomy, Front};
-ghost use Rattle.nodes.specs.Loading.{roomy, loaded, loading, unpacked};
-ghost use Rattle.nodes.specs.Unpacking.{Unpacks, together};
+ghost use Rattle.nodes.specs.Loading.{roomy, loaded, tellLoaded, loading, unpacked};
+ghost use Rattle.nodes.specs.Unpacking.{Unpacks, Blank, together};
 use document::LIMIT;
 
 pub mod fill; // fill.rt: one column, from the records of an image
@@ -100,7 +100,8 @@ fn accept_front(
     )
 }
 
-// What came of reading an image, and columns with room for the largest document: where it is accepted, their first entries hold its own.
+// What came of reading an image, and columns with room for the largest document: where its blocks are good, their first entries hold its
+// records, and all others are 0.
 pub struct Columns {
     pub loaded: Loaded,
     pub kind: [u8; LIMIT],
@@ -123,8 +124,8 @@ fn told(read: Reading, n: usize) -> Loaded
     }
 }
 
-// A whole image read into columns with room for the largest document; where it is refused, nothing is said of what they hold. One pass over
-// the blocks, one look at each record for each column, then the document's tests.
+// A whole image read into columns of zeros with room for the largest document. One pass over the blocks, one look at each record for each
+// column, then the document's tests.
 fn read_into(
     image: &[u8],
     kind: &mut [u8],
@@ -137,7 +138,7 @@ fn read_into(
     item: &mut [u32],
     spare: &mut [u16],
 ) -> Loaded
-    requires { ⌜ Front limit (length (now kind)) (length (now vkind)) (length (now name)) (length (now parent)) (length (now begin)) (length (now end)) (length (now value)) (length (now item)) (length (now spare)) ⌝ }
+    requires { ⌜ Blank (now kind) (now vkind) (now name) (now parent) (now begin) (now end) (now value) (now item) (now spare) ⌝ }
     ensures { λ r. ⌜ Unpacks (now (image .entry)) (together r (now (kind .exit)) (now (vkind .exit)) (now (name .exit)) (now (parent .exit)) (now (begin .exit)) (now (end .exit)) (now (value .exit)) (now (item .exit))) ⌝ }
 {
     let blocks = block::node_blocks(image);
@@ -151,7 +152,8 @@ fn read_into(
     told(read, n)
 }
 
-// An image read into columns of its own, for every byte string: unpacked once, and its document tested where it then stands. Cost: one
+// An image read into columns of its own, for every byte string: unpacked once, and its document tested where it then stands. Every entry is
+// determined: its field of each record, also where their document is refused, and 0 past them; all are 0 where a block is refused. Cost: one
 // pass over the blocks, one look at each record for each column, then the document's tests.
 pub fn read_columns(image: &[u8]) -> Columns
     ensures { λ r. ⌜ Unpacks (now (image .entry)) r ⌝ }
@@ -192,7 +194,7 @@ pub fn read_columns(image: &[u8]) -> Columns
 
 // What comes of a whole image, 1 to 10, for every byte string. Cost: as `read_columns`, of which it is the answer.
 pub fn read_nodes(image: &[u8]) -> Reading
-    ensures { λ r. ⌜ r ≡ readNodes (now (image .entry)) ⌝ }
+    ensures { λ r. ⌜ tellReading r ≡ tellReading (readNodes (now (image .entry))) ⌝ }
 {
     let columns = read_columns(image);
     let loaded = columns.loaded;
@@ -216,7 +218,7 @@ pub fn load(
     value: &mut [i32],
     item: &mut [u32],
 ) -> Loaded
-    ensures answer { λ r. ⌜ r ≡ loading (now (image .entry)) (length (now (kind .entry))) (length (now (vkind .entry))) (length (now (name .entry))) (length (now (parent .entry))) (length (now (begin .entry))) (length (now (end .entry))) (length (now (value .entry))) (length (now (item .entry))) ⌝ }
+    ensures answer { λ r. ⌜ tellLoaded r ≡ tellLoaded (loading (now (image .entry)) (length (now (kind .entry))) (length (now (vkind .entry))) (length (now (name .entry))) (length (now (parent .entry))) (length (now (begin .entry))) (length (now (end .entry))) (length (now (value .entry))) (length (now (item .entry)))) ⌝ }
     ensures kind { λ r. ⌜ now (kind .exit) ≡ unpacked r (λ (n : Node). n .kind) (now (image .entry)) (now (kind .entry)) ⌝ }
     ensures vkind { λ r. ⌜ now (vkind .exit) ≡ unpacked r (λ (n : Node). n .vkind) (now (image .entry)) (now (vkind .entry)) ⌝ }
     ensures name { λ r. ⌜ now (name .exit) ≡ unpacked r (λ (n : Node). n .name) (now (image .entry)) (now (name .entry)) ⌝ }

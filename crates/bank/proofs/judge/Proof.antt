@@ -22,7 +22,7 @@ judge-rule-requires c κs =
 returns : tie.Need-returns
 returns c =
     let reps = c .before .before .before .before .before .before .before .before .before .before .before .before .before .before .before .before .before .before .before .represent-front .ensures in
-    λ image u e. let w = u .whole _ e in c .judge-rule .ensures _ w (reps _ (w .values-held))
+    λ image u e. let w = fronts u e .whole in c .judge-rule .ensures _ w (reps _ (w .values-held))
 
 pub judge-spec : {M : Type 1} → statement M
 judge-spec =

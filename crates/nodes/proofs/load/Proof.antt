@@ -1,9 +1,9 @@
 -- `nodes::load` meets its contract: a refusal leaves every column, and an accepted image fills each with its field.
-use mathlib.Core.Path.{refl, sym, _∙_}
+use mathlib.Core.Path.{refl}
 use lib.ListN.{length}
 use Rattle.meaning.specs.declared.Node.{Node}
 use Rattle.meaning.specs.Nodes.{nodeIn}
-use Rattle.nodes.proofs.Loads.{blocks-good, as-image, no-room, with-room, room-for, field-column}
+use Rattle.nodes.proofs.Loads.{read-good, as-image, no-room, with-room, room-for, field-column}
 use borrow.Author.Needs.{needs}
 use Rattle.nodes.proofs.load.Statement.{statement}
 use Rattle.nodes.proofs.load.Tie as tie
@@ -17,7 +17,7 @@ enum-known-read c = search needs
 returns : tie.Need-returns
 returns c =
     let a = c .before .before .before .before .before .before .before .before .before .before .before .before .args in
-    (as-image (a .image .now) (length (a .kind .now)) (length (a .vkind .now)) (length (a .name .now)) (length (a .parent .now)) (length (a .begin .now)) (length (a .end .now)) (length (a .value .now)) (length (a .item .now)) (c .before .before .before .read-nodes .ensures) (c .before .read .given .1), (refl, (refl, (refl, (refl, (refl, (refl, (refl, refl))))))))
+    (as-image (a .image .now) (c .before .before .before .read-nodes .ensures) (length (a .kind .now)) (length (a .vkind .now)) (length (a .name .now)) (length (a .parent .now)) (length (a .begin .now)) (length (a .end .now)) (length (a .value .now)) (length (a .item .now)) (c .before .read .given .1), (refl, (refl, (refl, (refl, (refl, (refl, (refl, refl))))))))
 
 enum-told : tie.Need-enum-told
 enum-told c = search needs
@@ -25,7 +25,7 @@ enum-told c = search needs
 count-records-requires : tie.Need-count-records-requires
 count-records-requires c κs =
     let a = c .before .before .before .before .before .before .before .before .before .before .before .args in
-    record { fair = search needs; accepted = blocks-good (a .image .now) (sym (c .before .before .read-nodes .ensures) ∙ c .enum-told .given .1) }
+    record { fair = search needs; accepted = read-good (a .image .now) (c .before .before .read-nodes .ensures) (c .enum-told .given .1) }
 
 has-room-requires : tie.Need-has-room-requires
 has-room-requires c κs = search needs
@@ -34,14 +34,14 @@ returns-2 : tie.Need-returns-2
 returns-2 c =
     let a = c .before .before .before .before .before .before .before .before .before .before .before .before .before .before .args in
     let n = c .before .before .count-records in
-    (no-room (a .image .now) (length (a .kind .now)) (length (a .vkind .now)) (length (a .name .now)) (length (a .parent .now)) (length (a .begin .now)) (length (a .end .now)) (length (a .value .now)) (length (a .item .now)) (c .before .before .before .before .before .read-nodes .ensures) (c .before .before .before .enum-told .given .1) (n .result) (n .ensures .count) (c .before .has-room .ensures) (c .if1 .taken), (refl, (refl, (refl, (refl, (refl, (refl, (refl, refl))))))))
+    (no-room (a .image .now) (c .before .before .before .before .before .read-nodes .ensures) (length (a .kind .now)) (length (a .vkind .now)) (length (a .name .now)) (length (a .parent .now)) (length (a .begin .now)) (length (a .end .now)) (length (a .value .now)) (length (a .item .now)) (c .before .before .before .enum-told .given .1) (n .result) (n .ensures .count) (c .before .has-room .ensures) (c .if1 .taken), (refl, (refl, (refl, (refl, (refl, (refl, (refl, refl))))))))
 
 unpack-requires : tie.Need-unpack-requires
 unpack-requires c κs =
     let t = c .before .before .before .before .before .before .before .before in
     let a = t .before .before .before .before .before .before .before .before .before .before .before .before .before .before .args in
     let n = t .before .before .count-records in
-    room-for (a .image .now) (length (a .kind .now)) (length (a .vkind .now)) (length (a .name .now)) (length (a .parent .now)) (length (a .begin .now)) (length (a .end .now)) (length (a .value .now)) (length (a .item .now)) (t .before .before .before .before .before .read-nodes .ensures) (t .before .before .before .enum-told .given .1) (n .result) (n .ensures .count) (t .before .has-room .ensures) (n .ensures .inside) (t .if1 .left)
+    room-for (a .image .now) (t .before .before .before .before .before .read-nodes .ensures) (length (a .kind .now)) (length (a .vkind .now)) (length (a .name .now)) (length (a .parent .now)) (length (a .begin .now)) (length (a .end .now)) (length (a .value .now)) (length (a .item .now)) (t .before .before .before .enum-told .given .1) (n .result) (n .ensures .count) (t .before .has-room .ensures) (n .ensures .inside) (t .if1 .left)
 
 same-length : tie.Need-same-length
 same-length c = search needs
@@ -74,7 +74,7 @@ returns-3 c =
     let a = t .before .before .before .before .before .before .before .before .before .before .before .before .before .before .args in
     let n = t .before .before .count-records in
     let u = c .before .before .before .before .before .before .before .before .before .before .before .before .before .before .before .unpack .ensures in (
-      with-room (a .image .now) (length (a .kind .now)) (length (a .vkind .now)) (length (a .name .now)) (length (a .parent .now)) (length (a .begin .now)) (length (a .end .now)) (length (a .value .now)) (length (a .item .now)) (t .before .before .before .before .before .read-nodes .ensures) (t .before .before .before .enum-told .given .1) (n .result) (n .ensures .count) (t .before .has-room .ensures) (t .if1 .left),
+      with-room (a .image .now) (t .before .before .before .before .before .read-nodes .ensures) (length (a .kind .now)) (length (a .vkind .now)) (length (a .name .now)) (length (a .parent .now)) (length (a .begin .now)) (length (a .end .now)) (length (a .value .now)) (length (a .item .now)) (t .before .before .before .enum-told .given .1) (n .result) (n .ensures .count) (t .before .has-room .ensures) (t .if1 .left),
       (
         field-column (a .image .now) (n .result) (n .ensures .count) (λ (x : Node). x .kind) (a .kind .now) _ (u .0),
         (

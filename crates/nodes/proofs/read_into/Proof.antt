@@ -2,8 +2,7 @@
 use mathlib.Core.Path.{sym, _∙_}
 use native.Mathlib.Omega.{arith}
 use Rattle.nodes.proofs.Fills.{filled-room}
-use Rattle.nodes.proofs.Loads.{by-block}
-use Rattle.nodes.proofs.Held.{unpacks-refused, unpacks}
+use Rattle.nodes.proofs.Blanks.{blank-front, unpacks-none, unpacks-all}
 use borrow.Author.Needs.{needs}
 use Rattle.nodes.proofs.read_into.Statement.{statement}
 use Rattle.nodes.proofs.read_into.Tie as tie
@@ -23,18 +22,32 @@ told-requires c κs = search needs
 returns : tie.Need-returns
 returns c =
     let b = c .before .before .before .node-blocks .ensures in
-    unpacks-refused (c .before .before .before .before .before .before .before .before .before .before .before .before .before .args .image .now) 0 (by-block (c .before .before .before .before .before .before .before .before .before .before .before .before .before .args .image .now) b (c .before .enum-told2 .given .1)) (c .before .enum-told2 .given .1) (c .told .ensures)
+    let start = c .before .before .before .before .before .before .before .before .before .before .before .before .before in
+    unpacks-none (start .args .image .now) (sym b ∙ c .before .enum-told2 .given .1) b 0 (c .told .ensures) (start .pre)
 
 count-records-requires : tie.Need-count-records-requires
 count-records-requires c κs = record { fair = search needs; accepted = sym (c .before .before .node-blocks .ensures) ∙ c .enum-told .given .1 }
 
 unpack-requires : tie.Need-unpack-requires
-unpack-requires c κs = search needs
+unpack-requires c κs =
+    let n = c .before .before .before .before .before .before .before .before .count-records .ensures in
+    let f = blank-front (c .before .before .before .before .before .before .before .before .before .before .before .before .before .before .before .before .before .before .before .before .before .pre) in
+    record {
+      inside = n .inside;
+      kind = omega (arith, n .few, f .kind);
+      vkind = omega (arith, n .few, f .vkind);
+      name = omega (arith, n .few, f .name);
+      parent = omega (arith, n .few, f .parent);
+      begin = omega (arith, n .few, f .begin);
+      end = omega (arith, n .few, f .end);
+      value = omega (arith, n .few, f .value);
+      item = omega (arith, n .few, f .item);
+    }
 
 fill-pairs-requires : tie.Need-fill-pairs-requires
 fill-pairs-requires c κs =
     let n = c .before .before .before .before .before .before .before .before .before .before .before .before .before .before .before .before .before .before .before .before .before .before .before .before .before .count-records .ensures in
-    record { inside = n .inside; in-record = omega arith; fits = omega (arith, n .few, c .before .before .before .before .before .before .before .before .before .before .before .before .before .before .before .before .before .before .before .before .before .before .before .before .before .before .before .before .before .before .before .before .before .before .before .before .before .before .pre .spare) }
+    record { inside = n .inside; in-record = omega arith; fits = omega (arith, n .few, blank-front (c .before .before .before .before .before .before .before .before .before .before .before .before .before .before .before .before .before .before .before .before .before .before .before .before .before .before .before .before .before .before .before .before .before .before .before .before .before .before .pre) .spare) }
 
 accept-front-requires : tie.Need-accept-front-requires
 accept-front-requires c κs =
@@ -88,7 +101,8 @@ returns-2 c =
     let n = c .before .before .before .before .before .before .before .before .before .before .before .before .before .before .before .before .before .before .before .before .before .before .before .before .before .before .before .before .before .before .before .before .before .before .before .before .before .before .before .count-records in
     let blocks = c .before .before .before .before .before .before .before .before .before .before .before .before .before .before .before .before .before .before .before .before .before .before .before .before .before .before .before .before .before .before .before .before .before .before .before .before .before .before .before .before .before .before .node-blocks .ensures in
     let u = c .before .before .before .before .before .before .before .before .before .before .before .before .before .before .before .before .before .before .before .before .before .before .before .before .before .before .before .before .before .before .unpack .ensures in
-    unpacks (c .before .before .before .before .before .before .before .before .before .before .before .before .before .before .before .before .before .before .before .before .before .before .before .before .before .before .before .before .before .before .before .before .before .before .before .before .before .before .before .before .before .before .before .before .before .before .before .before .before .before .before .before .args .image .now) (n .result) (n .ensures .count) (sym blocks ∙ c .before .before .before .before .before .before .before .before .before .before .before .before .before .before .before .before .before .before .before .before .before .before .before .before .before .before .before .before .before .before .before .before .before .before .before .before .before .before .before .before .enum-told .given .1) _ _ _ _ _ _ _ _ _
+    let start = c .before .before .before .before .before .before .before .before .before .before .before .before .before .before .before .before .before .before .before .before .before .before .before .before .before .before .before .before .before .before .before .before .before .before .before .before .before .before .before .before .before .before .before .before .before .before .before .before .before .before .before .before in
+    unpacks-all (start .args .image .now) (sym blocks ∙ c .before .before .before .before .before .before .before .before .before .before .before .before .before .before .before .before .before .before .before .before .before .before .before .before .before .before .before .before .before .before .before .before .before .before .before .before .before .before .before .before .enum-told .given .1) (n .result) (n .ensures .count) (start .pre)
     (u .0) (u .1 .0) (u .1 .1 .0) (u .1 .1 .1 .0) (u .1 .1 .1 .1 .0) (u .1 .1 .1 .1 .1 .0) (u .1 .1 .1 .1 .1 .1 .0) (u .1 .1 .1 .1 .1 .1 .1) (c .before .before .before .before .before .before .before .before .before .before .before .before .before .fill-pairs .ensures) (c .before .accept-front .ensures) (c .told2 .ensures)
 
 pub read-into-spec : {M : Type 1} → statement M

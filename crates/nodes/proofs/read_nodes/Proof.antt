@@ -1,5 +1,6 @@
 -- `nodes::read_nodes` meets its contract: the answer beside the columns is the image's.
-use mathlib.Core.Path.{sym}
+use mathlib.Core.Path.{sym, ap}
+use Rattle.meaning.specs.Answer.{tellReading}
 use Rattle.nodes.proofs.Held.{refused-image, held-image}
 use borrow.Author.Needs.{needs}
 use Rattle.nodes.proofs.read_nodes.Statement.{statement}
@@ -15,10 +16,10 @@ enum-known-loaded : tie.Need-enum-known-loaded
 enum-known-loaded c = search needs
 
 returns : tie.Need-returns
-returns c = sym (held-image _ (c .before .before .read-columns .ensures .answer) (c .enum-told .given .1) .accepted)
+returns c = ap tellReading (sym (held-image _ (c .before .before .read-columns .ensures .answer) (c .enum-told .given .1) .accepted))
 
 returns-2 : tie.Need-returns-2
-returns-2 c = sym (refused-image _ (c .before .before .before .read-columns .ensures .answer) (c .before .loaded .given .1))
+returns-2 c = ap tellReading (sym (refused-image _ (c .before .before .before .read-columns .ensures .answer) (c .before .loaded .given .1)))
 
 pub read-nodes-spec : {M : Type 1} → statement M
 read-nodes-spec =

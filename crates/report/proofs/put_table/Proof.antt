@@ -22,7 +22,7 @@ slice-aggregate-put-rules c = search needs
 put-rules-requires : tie.Need-put-rules-requires
 put-rules-requires c κs =
     let p = c .before .before .before .before .before .before .before .before .before .before .before .before .before .before .before .before .before .before .before .before .before .before .before .before .before .before .before .before .before .before .before .before .before .before .pre in
-    opened (p .0) (p .1) (p .2) (c .before .before .before .before .before .before .before .before .before .before .before .before .before .before .before .before .before .before .before .represent-front .ensures _ (p .0 .whole _ (p .1) .values-held))
+    opened (p .0) (p .1) (p .2) (c .before .before .before .before .before .before .before .before .before .before .before .before .before .before .before .before .before .before .before .represent-front .ensures _ (fronts (p .0) (p .1) .whole .values-held))
 
 same-length : tie.Need-same-length
 same-length c = search (needs, c .before .before .before .before .before .before .before .before .before .before .before .before .before .before .before .before .before .before .before .before .before .before .before .before .before .before .before .before .before .before .before .before .put-header .kept, c .before .before .put-rules .kept)
