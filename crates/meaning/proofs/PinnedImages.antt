@@ -1,6 +1,6 @@
 -- The banks of the pinned examples, record by record: each is accepted as it stands here, and its image holds these records.
 use mathlib.Core.Path.{refl}
-use mathlib.Core.List.{List, [], _∷_, _++_}
+use mathlib.Core.List.{List, [], _∷_}
 use Prim.Native.Nat.{ℕ, zero, suc}
 use lib.IntN.{pos, negsuc}
 use lib.ListN.{replicate}

@@ -1,5 +1,5 @@
 -- Pinned examples of node images: each refusal from 1 to 10 with its place, which of two comes first, and 11 and 12 of a slice.
-use mathlib.Core.Path.{_≡_, refl}
+use mathlib.Core.Path.{refl}
 use mathlib.Core.List.{List, [], _∷_, _++_}
 use Prim.Native.Nat.{ℕ}
 use lib.ListN.{drop, replicate}

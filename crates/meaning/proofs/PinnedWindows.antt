@@ -1,5 +1,5 @@
 -- Pinned examples of non-sequenced rules: windows of days and of months, and the values of a window for each kind of rule.
-use mathlib.Core.Path.{_≡_, refl}
+use mathlib.Core.Path.{refl}
 use mathlib.Core.List.{List, [], _∷_, map}
 use Prim.Native.Nat.{ℕ}
 use lib.IntN.{ℤ, pos, negsuc}
