@@ -4,7 +4,7 @@ use mathlib.Core.List.{List, _++_}
 use Rattle.meaning.proofs.Pinning.{Pin, given, wanted, Right, _also_}
 use Rattle.meaning.proofs.PinnedNodes.{nodeBlocks, node-blocks, nodeRecords, node-records, nodeTrees, node-trees}
 use Rattle.meaning.proofs.PinnedRules.{onLone, ruleBlocks, rule-blocks, ruleShapes, rule-shapes, ruleNumbers, rule-numbers, ruleOrders, rule-orders, ruleCalls, rule-calls}
-use Rattle.meaning.proofs.PinnedDays.{onDeep, paths, paths-right, onShelf, dayValues, day-values, dayLists, day-lists}
+use Rattle.meaning.proofs.PinnedDays.{onDeep, paths, paths-right, onShelf, dayValues, day-values, dayLists, day-lists, daySigns, day-signs}
 use Rattle.meaning.proofs.PinnedWindows.{onMeter, spans, spans-right, onHolders, windowValues, window-values, windowSteps, window-steps}
 
 -- node images and rule images refused, then verdicts and lists of sequenced rules, then verdicts of non-sequenced ones
@@ -12,7 +12,7 @@ unfoldable pub pinned : List Pin
 pinned =
     nodeBlocks ++ nodeRecords ++ nodeTrees
     ++ onLone ruleBlocks ++ onLone ruleShapes ++ onLone ruleNumbers ++ onLone ruleOrders ++ ruleCalls
-    ++ onDeep paths ++ onShelf dayValues ++ onShelf dayLists
+    ++ onDeep paths ++ onShelf dayValues ++ onShelf dayLists ++ daySigns
     ++ onMeter spans ++ onHolders windowValues ++ windowSteps
 
 all-right : Right pinned
@@ -20,7 +20,7 @@ unfolding pinned
 all-right =
     node-blocks also node-records also node-trees
     also rule-blocks also rule-shapes also rule-numbers also rule-orders also rule-calls
-    also paths-right also day-values also day-lists
+    also paths-right also day-values also day-lists also day-signs
     also spans-right also window-values also window-steps
 
 -- each example carries its two images, its question and the answer it is to have

@@ -1,8 +1,8 @@
 -- Pinned examples of sequenced rules: paths, values on one day for each kind of rule, and the change days.
-use mathlib.Core.Path.{_≡_, refl}
+use mathlib.Core.Path.{refl}
 use mathlib.Core.List.{List, [], _∷_, map}
 use Prim.Native.Nat.{ℕ}
-use lib.IntN.{pos, negsuc}
+use lib.IntN.{pos}
 use Rattle.meaning.specs.declared.Verdict.{Verdict}
 use Rattle.meaning.specs.declared.Verdict.the-variants.{Holds, Fails}
 use Rattle.meaning.specs.declared.Listed.the-variants.{Stored}
@@ -10,8 +10,8 @@ use Rattle.meaning.specs.Document.{ofNodes}
 use Rattle.meaning.proofs.Asking.{onRule, onChanges, told, stored}
 use Rattle.meaning.proofs.Opened.{opened}
 use Rattle.meaning.proofs.Writing.{rule, to, between, during, nodes, table, written}
-use Rattle.meaning.proofs.Pinning.{Pin, Posed, pose, pinTo, Right, by-reading}
-use Rattle.meaning.proofs.PinnedImages.{deep, deep-held, shelf, shelf-held}
+use Rattle.meaning.proofs.Pinning.{Pin, pin, Posed, pose, pinTo, Right, by-pinning, by-reading}
+use Rattle.meaning.proofs.PinnedImages.{deep, deep-held, shelf, shelf-held, signs}
 
 -- examples on the bank eight deep, and on the shelf
 abbrev pub onDeep : List Posed → List Pin
@@ -135,3 +135,19 @@ dayLists =
 pub day-lists : Right (onShelf dayLists)
 unfolding opened written dayLists shelf
 day-lists = by-reading (nodes shelf) (ofNodes shelf) shelf-held dayLists refl
+
+-- the versions of a name are unique by their own values
+abbrev ownUnique : ℕ → Verdict → Pin
+ownUnique name found = pin (nodes signs) (table (rule 2 0 (1 ∷ name ∷ []) 0 ∷ [])) (onRule 0) (told found)
+
+unfoldable pub daySigns : List Pin
+daySigns =
+    -- 5 is not −6, whichever is first; −6 is −6
+    ownUnique 2 (Holds 2)
+    ∷ ownUnique 3 (Holds 2)
+    ∷ ownUnique 65535 (Fails 0 7 1)
+    ∷ []
+
+pub day-signs : Right daySigns
+unfolding opened written daySigns signs
+day-signs = by-pinning daySigns refl

@@ -1,6 +1,6 @@
 -- The banks of the pinned examples, record by record: each is accepted as it stands here, and its image holds these records.
 use mathlib.Core.Path.{refl}
-use mathlib.Core.List.{List, [], _∷_, _++_}
+use mathlib.Core.List.{List, [], _∷_}
 use Prim.Native.Nat.{ℕ, zero, suc}
 use lib.IntN.{pos, negsuc}
 use lib.ListN.{replicate}
@@ -79,6 +79,21 @@ tenRules = table (replicate 10 plain)
 
 unfoldable pub lastRule : List ℕ
 lastRule = block 1 2 (rule 2 0 (1 ∷ []) 0 ∷ [])
+
+-- numbers of both signs: 5 in record 3 and −6 in 5, of name 2; −6 in 7 and 5 in 9, of name 3
+unfoldable pub signs : List Node
+signs =
+    item 1 65535 1
+    ∷ bare 0 0 10
+    ∷ item 2 1 2
+    ∷ number 2 0 10 (pos 5)
+    ∷ item 2 1 3
+    ∷ number 4 0 10 (negsuc 5)
+    ∷ item 3 1 4
+    ∷ number 6 0 10 (negsuc 5)
+    ∷ item 3 1 5
+    ∷ number 8 0 10 (pos 5)
+    ∷ []
 
 -- Mixers A in record 3 and B in 8 with serials, name 3; plugs C in 15 and D in 24 that name serials, name 6. B has two serials
 -- on the days 20 to 39, C on 75 to 79; one of A's serials and some of C's are numbers; version 13 has no value.

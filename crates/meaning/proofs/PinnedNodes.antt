@@ -1,5 +1,5 @@
 -- Pinned examples of node images: each refusal from 1 to 10 with its place, which of two comes first, and 11 and 12 of a slice.
-use mathlib.Core.Path.{_≡_, refl}
+use mathlib.Core.Path.{refl}
 use mathlib.Core.List.{List, [], _∷_, _++_}
 use Prim.Native.Nat.{ℕ}
 use lib.ListN.{drop, replicate}
@@ -141,11 +141,13 @@ nodeTrees =
     ∷ refused (nodes (item 1 65535 1 ∷ bare 0 0 9 ∷ item 2 1 1 ∷ [])) 9 2
     ∷ refused (nodes (item 1 65535 1 ∷ bare 0 0 9 ∷ item 2 1 2 ∷ bare 2 0 5 ∷ item 2 1 2 ∷ bare 4 4 9 ∷ [])) 9 4
     ∷ refused (nodes (item 1 65535 1 ∷ bare 0 0 9 ∷ item 2 1 2 ∷ bare 2 4 9 ∷ item 2 1 2 ∷ bare 4 0 5 ∷ [])) 9 4
-    -- two items with one number and one name that touch, and one without a version with the number of its ancestor
+    -- two items with one number and one name that touch, either first, and one without a version with the number of its ancestor
     ∷ sliced (nodes (item 1 65535 1 ∷ bare 0 0 9 ∷ item 2 1 2 ∷ bare 2 0 5 ∷ item 2 1 2 ∷ bare 4 5 9 ∷ item 1 1 1 ∷ [])) 5 (1 ∷ 5 ∷ []) 2
-    -- 10: the root without a version, a day missing between two
+    ∷ sliced (nodes (item 1 65535 1 ∷ bare 0 0 9 ∷ item 2 1 2 ∷ bare 2 5 9 ∷ item 2 1 2 ∷ bare 4 0 5 ∷ [])) 5 (1 ∷ 3 ∷ []) 2
+    -- 10: the root without a version, a day missing between two; one day is enough
     ∷ refused (nodes (item 1 65535 1 ∷ [])) 10 0
     ∷ refused (inNode 7 6 (pair 61) little) 10 0
+    ∷ sliced (nodes (item 1 65535 1 ∷ bare 0 0 1 ∷ [])) 0 (1 ∷ []) 1
     -- all records ahead of 7: 5 at a high record, 7 at a low one; 8 likewise; then 7 ahead of 9, and 9 of 10
     ∷ refused (inNode 7 1 (3 ∷ []) (inNode 4 6 (pair 29) little)) 5 7
     ∷ refused (inNode 3 8 (pair 11) (nodes (deep ++ item 19 15 9 ∷ []))) 8 16

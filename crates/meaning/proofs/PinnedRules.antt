@@ -1,5 +1,5 @@
 -- Pinned examples of rule images: each refusal from 21 to 26 with its place, which of two comes first, and 11 and 12 of the calls on rules.
-use mathlib.Core.Path.{_≡_, refl}
+use mathlib.Core.Path.{refl}
 use mathlib.Core.List.{List, [], _∷_, _++_, map}
 use Prim.Native.Nat.{ℕ}
 use lib.IntN.{pos, negsuc}
@@ -10,7 +10,7 @@ use Rattle.meaning.specs.declared.Listed.the-variants.{Stored, Refused a
 use Rattle.meaning.specs.Document.{ofNodes}
 use Rattle.meaning.proofs.Asking.{onRule, onChanges, told, stored}
 use Rattle.meaning.proofs.Opened.{opened}
-use Rattle.meaning.proofs.Writing.{pair, quad, put, inNode, rule, distinct, to, between, during, days, months, nodes, table, spoilt, written}
+use Rattle.meaning.proofs.Writing.{pair, put, inNode, rule, distinct, to, between, during, days, months, nodes, table, spoilt, written}
 use Rattle.meaning.proofs.Pinning.{Pin, pin, Posed, pose, pinTo, Right, by-pinning, by-reading}
 use Rattle.meaning.proofs.PinnedImages.{lone, lone-held, little, plain, tenRules, lastRule}
 

@@ -1,5 +1,5 @@
 -- Pinned examples of non-sequenced rules: windows of days and of months, and the values of a window for each kind of rule.
-use mathlib.Core.Path.{_≡_, refl}
+use mathlib.Core.Path.{refl}
 use mathlib.Core.List.{List, [], _∷_, map}
 use Prim.Native.Nat.{ℕ}
 use lib.IntN.{ℤ, pos, negsuc}
@@ -142,8 +142,8 @@ windowSteps =
     ∷ steps (number 7 10 20 (negsuc 9)) (negsuc 9) (pos 110) (Holds 1)
     ∷ steps (number 7 10 20 (negsuc 9)) (negsuc 8) (pos 110) (Fails 0 8 1)
     ∷ steps (number 7 10 20 (negsuc 9)) (negsuc 9) (pos 109) (Fails 0 6 1)
-    -- a text parts them too, and offends itself; a version without a value does neither
-    ∷ steps (text 7 10 20 50) (negsuc 9) (pos 60) (Fails 0 8 1)
+    -- a text parts them too, is no start of a step, and offends itself; a version without a value does none of it
+    ∷ steps (text 7 10 20 5) (negsuc 9) (pos 60) (Fails 0 8 1)
     ∷ steps (bare 7 10 20) (negsuc 9) (pos 60) (Fails 0 6 1)
     ∷ steps (bare 7 10 20) (negsuc 9) (pos 100) (Holds 1)
     -- a number that begins a day sooner or ends a day later does not part them, and has itself a step to one of them only
