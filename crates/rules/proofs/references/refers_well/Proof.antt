@@ -20,7 +20,7 @@ index-requires : tie.Need-index-requires
 index-requires c κs = search needs
 
 returns-2 : tie.Need-returns-2
-returns-2 c = missing _ _ _ _ (c .before .before .before .if1 .left) (c .before .index .ensures) (c .if2 .taken)
+returns-2 c = missing _ _ _ _ (c .before .before .before .if1 .left) (c .before .index .ensures) (search needs)
 
 shared-slice-read-other : tie.Need-shared-slice-read-other
 shared-slice-read-other c = search needs
