@@ -209,7 +209,7 @@ static int report_pairs(const char *name)
     if (file < 0) return 2;
     for (int pair = 0; take(file, head, 20); pair++) {
         const u32 nodes = load32(head), table = load32(head + 4);
-        if (nodes > NODE_ROOM || table > RULE_ROOM) return 2;
+        if (nodes > NODE_ROOM || table > RULE_ROOM) break;
         if (!take(file, node_image, (int)nodes) || !take(file, rule_image, (int)table)) break;
         put_pair(pair, head, (int)nodes, (int)table);
     }

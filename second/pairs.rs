@@ -4,6 +4,10 @@ use crate::report::{numbers, report, Reading};
 use std::fs::File;
 use std::io::{self, BufReader, BufWriter, Read, Write};
 
+/// The most bytes that an image of a pair has: one more than the largest good one.
+const NODES_MOST: u32 = 20481;
+const RULES_MOST: u32 = 5121;
+
 /// The next so many bytes, or none if the file ends before.
 fn taken(file: &mut dyn Read, length: usize) -> Option<Vec<u8>> {
     let mut bytes = Vec::new();
@@ -11,11 +15,15 @@ fn taken(file: &mut dyn Read, length: usize) -> Option<Vec<u8>> {
     if bytes.len() == length { Some(bytes) } else { None }
 }
 
-/// Header, node image and rule image of the next pair.
+/// Header, node image and rule image of the next pair; none if the file ends before, or a length is more than an image has.
 fn next_pair(file: &mut dyn Read) -> Option<(Vec<u8>, Vec<u8>, Vec<u8>)> {
     let header = taken(file, 20)?;
-    let nodes = taken(file, u32_at(&header, 0) as usize)?;
-    let rules = taken(file, u32_at(&header, 4) as usize)?;
+    let (nodes, rules) = (u32_at(&header, 0), u32_at(&header, 4));
+    if nodes > NODES_MOST || rules > RULES_MOST {
+        return None;
+    }
+    let nodes = taken(file, nodes as usize)?;
+    let rules = taken(file, rules as usize)?;
     Some((header, nodes, rules))
 }
 

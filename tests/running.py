@@ -38,18 +38,16 @@ def printed(run, folder, extra={}):
 
 
 def over_cases(tops, file, check):
-    """Runs check(folder) on each case that has the file; it gives None or what is wrong. Prints the count; 0 if all passed."""
+    """Runs check(folder) on each case that has the file; it gives None or what is wrong. A folder without one counts as failed.
+
+    Prints the count; 0 if all passed.
+    """
     passed = failed = 0
     for top in tops:
-        for case in sorted(os.listdir(top)):
-            folder = os.path.join(top, case)
-            if not os.path.exists(os.path.join(folder, file)):
-                continue
-            wrong = check(folder)
-            if wrong is None:
-                passed += 1
-            else:
-                failed += 1
-                print(f"{case}: {wrong}")
+        cases = [case for case in sorted(os.listdir(top)) if os.path.exists(os.path.join(top, case, file))]
+        told = [(case, check(os.path.join(top, case))) for case in cases] or [(top, "no case")]
+        wrong = [f"{case}: {why}" for case, why in told if why is not None]
+        passed, failed = passed + len(told) - len(wrong), failed + len(wrong)
+        print("".join(line + "\n" for line in wrong), end="")
     print(f"{passed} passed, {failed} failed")
     return 0 if failed == 0 and passed > 0 else 1

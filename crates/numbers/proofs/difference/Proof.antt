@@ -5,17 +5,24 @@ use Rattle.numbers.proofs.Signs.{given, widens, widened}
 use Rattle.numbers.proofs.difference.Statement.{statement}
 use Rattle.numbers.proofs.difference.Tie as tie
 
-cast-minus : tie.Need-cast-minus
-cast-minus c = widens (c .fits .q)
+widen-requires : tie.Need-widen-requires
+widen-requires c κs = widens (c .fits .q) .sfits
 
-cast-minus-2 : tie.Need-cast-minus-2
-cast-minus-2 c = widens (c .fits .p)
+widen-requires-2 : tie.Need-widen-requires-2
+widen-requires-2 c κs = widens (c .before .fits .p) .sfits
 
 minus-requires : tie.Need-minus-requires
-minus-requires c κs = rw (widened (c .fits .q), widened (c .fits .p)) (c .fits .q .sfits, c .fits .p .sfits)
+minus-requires c κs =
+    let f = c .before .before .fits in
+    rw (widened (f .q) (c .before .widen .ok) (c .before .widen .ensures), widened (f .p) (c .widen2 .ok) (c .widen2 .ensures))
+    (f .q .sfits, f .p .sfits)
 
 returns : tie.Need-returns
-returns c = given w64 (c .minus .ok) ∙ c .minus .ensures ∙ rw (widened (c .before .fits .q), widened (c .before .fits .p))
+returns c =
+    let b = c .before in
+    let f = b .before .before .fits in
+    given w64 (c .minus .ok) ∙ c .minus .ensures
+    ∙ rw (widened (f .q) (b .before .widen .ok) (b .before .widen .ensures), widened (f .p) (b .widen2 .ok) (b .widen2 .ensures))
 
 pub difference-spec : {M : Type 1} → statement M
-difference-spec = tie.close (tie.spec cast-minus cast-minus-2 minus-requires returns)
+difference-spec = tie.close (tie.spec widen-requires widen-requires-2 minus-requires returns)

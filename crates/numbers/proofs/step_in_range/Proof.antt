@@ -9,16 +9,25 @@ use Rattle.numbers.proofs.step_in_range.Tie as tie
 difference-requires : tie.Need-difference-requires
 difference-requires c κs = search needs
 
-cast-result : tie.Need-cast-result
-cast-result c = widens (c .before .fits .low)
+widen-requires : tie.Need-widen-requires
+widen-requires c κs = widens (c .before .fits .low) .sfits
 
-cast-result-2 : tie.Need-cast-result-2
-cast-result-2 c = widens (c .before .fits .high)
+widen-requires-2 : tie.Need-widen-requires-2
+widen-requires-2 c κs = widens (c .before .before .fits .high) .sfits
 
 returns : tie.Need-returns
 returns c =
-    let f = c .before .fits in
-    rw (widened (f .low), widened (f .high), given w64 (c .difference .ok), c .difference .ensures, toZ-ofZ (f .q), toZ-ofZ (f .p))
+    let b = c .before in
+    let f = b .before .before .fits in
+    let step = b .before .difference in
+    rw (
+      widened (f .low) (b .widen .ok) (b .widen .ensures),
+      widened (f .high) (c .widen2 .ok) (c .widen2 .ensures),
+      given w64 (step .ok),
+      step .ensures,
+      toZ-ofZ (f .q),
+      toZ-ofZ (f .p),
+    )
 
 pub step-in-range-spec : {M : Type 1} → statement M
-step-in-range-spec = tie.close (tie.spec difference-requires cast-result cast-result-2 returns)
+step-in-range-spec = tie.close (tie.spec difference-requires widen-requires widen-requires-2 returns)
