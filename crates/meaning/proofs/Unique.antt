@@ -1,8 +1,6 @@
--- What is told of an answer: that it determines the answer, so that two with the same number and values are equal, and 01's values for each case.
+-- What is told of an answer determines it: two answers with the same number and values are equal.
 use mathlib.Core.Path.{_≡_, refl, ap, sym, _∙_}
 use mathlib.Core.Bool.{cond}
-use mathlib.Core.List.{[], _∷_}
-use Prim.Native.Nat.{ℕ}
 use lib.Dec.{eqb}
 use Rattle.meaning.specs.declared.Reading.{Reading}
 use Rattle.meaning.specs.declared.Reading.the-variants.{Accepted, Refused}
@@ -44,14 +42,3 @@ verdict-unique = apart tellVerdict judgedBack same
     same (Holds n) = refl
     same (Fails d v n) = refl
     same (Unjudged k i) = refl
-
--- 01's number and values of an answer, field by field
-abbrev telling : ℕ → ℕ → ℕ → ℕ → ℕ → ℕ → Told
-telling outcome number place day offender count = record { outcome = outcome; number = number; place = place; day = day; offender = offender; count = count }
-
--- where a rule holds day and record are 0; of a refusal day, record and count are
-pub told-worked :
-    tellVerdict (Holds 4) ∷ tellVerdict (Fails 200 3 5) ∷ tellVerdict (Unjudged 7 12) ∷ tellListed (Stored 4) ∷ tellListed (Unlisted 7 12) ∷ tellReading Accepted ∷ tellReading (Refused 7 12) ∷ []
-    ≡ telling 0 0 0 0 0 4 ∷ telling 1 0 0 200 3 5 ∷ telling 2 7 12 0 0 0 ∷ telling 0 0 0 0 0 4 ∷ telling 2 7 12 0 0 0 ∷ telling 0 0 0 0 0 0 ∷ telling 2 7 12 0 0 0 ∷ []
-unfolding tellVerdict tellListed tellReading
-told-worked = refl
