@@ -30,6 +30,7 @@ use Rattle.meaning.proofs.Accepted.{sound-accepted}
 use Rattle.meaning.proofs.Picks.{Ascending, In, pick-ascends}
 use Rattle.meaning.proofs.Slices.{Lives}
 use Rattle.meaning.proofs.Over.{over}
+use Rattle.meaning.proofs.Rooms.{slice-most, days-most}
 use Rattle.meaning.proofs.Changes.{ChangeDay, At-place}
 use Rattle.meaning.proofs.Faults.{NoFault, FirstFault}
 use Rattle.meaning.proofs.Timetable.{Nth, IsWindow}
@@ -352,3 +353,15 @@ unfolding changesOf
 change-days-room nodes rules k lent y after c w s h =
     let t = enough-days (docOf nodes) (sound-accepted (docOf nodes) (w .nodes-sound .document)) (referredBy (rulesOf rules) k) (ruleAt (rulesOf rules) k) in
     changes-refusals nodes rules k lent y after c .given .1 (w, s, omega (arith, t .few))
+
+-- So 2,001 entries have room for every list of change days, ..
+pub change-days-room-any : (nodes rules : List ℕ) (k : ℕ) (lent : List ℕ) (y : Listed) (after : List ℕ) → ChangesPromise nodes rules k lent y after
+    → Answerable nodes rules k → Sequenced (ruleAt (rulesOf rules) k) → 2001 ≤ length lent → (m : ℕ) × (y ≡ Stored m)
+unfolding changesOf
+change-days-room-any nodes rules k lent y after c w s h =
+    changes-refusals nodes rules k lent y after c .given .1 (w, s, omega (arith, days-most nodes (w .nodes-sound) (referredBy (rulesOf rules) k) (ruleAt (rulesOf rules) k)))
+
+-- .. and 1,000 for every slice.
+pub slice-room : (nodes : List ℕ) (d : ℕ) (lent : List ℕ) (x : Listed) (after : List ℕ) → SlicePromise nodes d lent x after
+    → SoundNodes nodes → d ≤ 36524 → 1000 ≤ length lent → (m : ℕ) × (x ≡ Stored m)
+slice-room nodes d lent x after p n l h = slice-refusals nodes d lent x after p .given .1 (n, l, omega (arith, slice-most nodes n d))

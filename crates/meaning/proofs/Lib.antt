@@ -32,6 +32,7 @@ pub mod Quiet
 pub mod Picks
 pub mod Over
 pub mod Changes
+pub mod Rooms
 pub mod Faults
 pub mod Timetable
 pub mod Windows
@@ -43,6 +44,8 @@ pub mod Opened
 pub mod ImageBytes
 pub mod Writing
 pub mod Examples
+pub mod Theorems
+pub mod Working
 pub mod PinnedImages
 pub mod PinnedNodes
 pub mod PinnedRules
@@ -50,4 +53,3 @@ pub mod PinnedDays
 pub mod PinnedWindows
 pub mod Pinned
 pub mod Unique
-pub mod Theorems

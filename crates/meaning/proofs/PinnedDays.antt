@@ -10,7 +10,8 @@ use Rattle.meaning.specs.Document.{ofNodes}
 use Rattle.meaning.proofs.Asking.{onRule, onChanges, told, stored}
 use Rattle.meaning.proofs.Opened.{opened}
 use Rattle.meaning.proofs.Writing.{rule, to, between, during, nodes, table, written}
-use Rattle.meaning.proofs.Pinning.{Pin, pin, Posed, pose, pinTo, Right, by-pinning, by-reading}
+use Rattle.meaning.proofs.Pinning.{Pin, pin, Posed, pose, pinTo, Right}
+use Rattle.meaning.proofs.Working.{by-pinning, by-reading}
 use Rattle.meaning.proofs.PinnedImages.{deep, deep-held, shelf, shelf-held, signs}
 
 -- examples on the bank eight deep, and on the shelf

@@ -11,7 +11,8 @@ use Rattle.meaning.specs.Document.{ofNodes}
 use Rattle.meaning.proofs.Asking.{onRule, onChanges, told, stored}
 use Rattle.meaning.proofs.Opened.{opened}
 use Rattle.meaning.proofs.Writing.{pair, put, inNode, rule, distinct, to, between, during, days, months, nodes, table, spoilt, written}
-use Rattle.meaning.proofs.Pinning.{Pin, pin, Posed, pose, pinTo, Right, by-pinning, by-reading}
+use Rattle.meaning.proofs.Pinning.{Pin, pin, Posed, pose, pinTo, Right}
+use Rattle.meaning.proofs.Working.{by-pinning, by-reading}
 use Rattle.meaning.proofs.PinnedImages.{lone, lone-held, little, plain, tenRules, lastRule}
 
 -- examples on the lone root
@@ -163,8 +164,7 @@ ruleNumbers =
     ∷ refusedRule 25 (months 1201 1 (rule 1 1 one 0))
     ∷ refusedRule 25 (months 1 1201 (rule 1 1 one 0))
     ∷ read (months 1200 1200 (rule 2 1 one 0)) (Holds 1)
-    -- 25: months from a day that no month starts on; from the start of February they are read
-    ∷ refusedRule 25 (during 30 91 (months 1 1 (rule 1 1 one 0)))
+    -- months from the start of February are read (a day on which no month starts is 25 by `Rows.in-months`)
     ∷ read (during 31 91 (months 1 1 (rule 2 1 one 0))) (Holds 2)
     -- 25: unit 3
     ∷ refusedRule 25 (put 38 (3 ∷ []) (days 1 1 (rule 1 1 one 0)))

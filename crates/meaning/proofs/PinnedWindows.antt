@@ -10,7 +10,8 @@ use Rattle.meaning.specs.Document.{ofNodes}
 use Rattle.meaning.proofs.Asking.{onRule, told}
 use Rattle.meaning.proofs.Opened.{opened}
 use Rattle.meaning.proofs.Writing.{bare, number, text, rule, distinct, to, between, during, days, months, nodes, table, written}
-use Rattle.meaning.proofs.Pinning.{Pin, pin, Posed, pose, pinTo, Right, by-pinning, by-reading}
+use Rattle.meaning.proofs.Pinning.{Pin, pin, Posed, pose, pinTo, Right}
+use Rattle.meaning.proofs.Working.{by-pinning, by-reading}
 use Rattle.meaning.proofs.PinnedImages.{holders, holders-held, meter, meter-held, stepsBy}
 
 -- examples on the meter, and on the holders

@@ -1,7 +1,7 @@
--- Examples that each carry their own images, and how lists of them are worked out; a node image that many share is read once.
-use mathlib.Core.Path.{_≡_, ap, sym, _∙_, fun-ext}
+-- Examples that each carry their own images; a node image that many share is read once.
+use mathlib.Core.Path.{_≡_, ap, sym, _∙_}
 use mathlib.Core.Bool.{_&&_}
-use mathlib.Core.List.{List, map, _++_, map-append, map-map}
+use mathlib.Core.List.{List, map, _++_, map-append}
 use Prim.Native.Nat.{ℕ}
 use lib.ListN.{length, replicate}
 use lib.Dec.{ltb, leb}
@@ -12,8 +12,8 @@ use Rattle.meaning.specs.Document.{Doc}
 use Rattle.meaning.specs.Nodes.{docOf, readNodes}
 use Rattle.meaning.specs.Rules.{isSequenced, ruleAt, rulesOf, readRules}
 use Rattle.meaning.specs.Day.{slice}
-use Rattle.meaning.specs.Answer.{referredBy, verdictAfter, readVerdict, storing, lentAfter, readSlice, sliceAnswer, sliceLent, readChanges}
-use Rattle.meaning.proofs.Asking.{Asked, onRule, onSlice, onChanges, Answered, told, stored, answer, quickDays, quickJudged, quickVerdict, quickChanges, quickAnswer, answer-quick}
+use Rattle.meaning.specs.Answer.{referredBy, verdictAfter, storing, lentAfter}
+use Rattle.meaning.proofs.Asking.{Asked, onRule, onSlice, onChanges, Answered, told, stored, answer, quickDays, quickJudged}
 
 -- a node image and a rule image, a question and the answer it is to have
 pub record Pin : Type 0 where
@@ -35,10 +35,6 @@ wanted ps = map (λ (p : Pin). p .expected) ps
 -- every example of a list has the answer expected
 pub record Right (ps : List Pin) : Type 0 where
   pub each : given ps ≡ wanted ps
-
--- a list of examples may be worked out quickly
-pub by-pinning : (ps : List Pin) → map (λ (p : Pin). quickAnswer (p .nodes) (p .rules) (p .asked)) ps ≡ wanted ps → Right ps
-by-pinning ps h = record { each = ap (λ (f : Pin → Answered). map f ps) (fun-ext (λ p. answer-quick (p .nodes) (p .rules) (p .asked))) ∙ h }
 
 -- two lists one after the other
 infixl 5 _also_
@@ -82,21 +78,3 @@ pinTo nodes p = pin nodes (p .rules) (p .asked) (p .expected)
 pub record Held (nodes : List ℕ) (doc : Doc) : Type 0 where
   pub nodes-read : readNodes nodes ≡ Accepted
   pub document : docOf nodes ≡ doc
-
-module _ (nodes : List ℕ) (doc : Doc) (held : Held nodes doc) where
-  answer-read : (rules : List ℕ) (a : Asked) → quickAnswer nodes rules a ≡ readAnswer doc rules a
-  unfolding quickAnswer readAnswer answer quickVerdict quickChanges sliceAnswer sliceLent readVerdict readChanges readSlice
-  answer-read rules (onRule k) = rw (held .nodes-read, held .document)
-  answer-read rules (onSlice d room) = rw (held .nodes-read, held .document)
-  answer-read rules (onChanges k room) = rw (held .nodes-read, held .document)
-
-  -- so a list of examples on one bank may be worked out from its document
-  pub by-reading : (ps : List Posed) → map (λ (p : Posed). readAnswer doc (p .rules) (p .asked)) ps ≡ map (λ (p : Posed). p .expected) ps → Right (map (pinTo nodes) ps)
-  by-reading ps h =
-      record {
-        each =
-            map-map (λ (p : Pin). answer (p .nodes) (p .rules) (p .asked)) (pinTo nodes) ps
-            ∙ ap (λ (f : Posed → Answered). map f ps) (fun-ext (λ p. answer-quick nodes (p .rules) (p .asked) ∙ answer-read (p .rules) (p .asked)))
-            ∙ h
-            ∙ sym (map-map (λ (p : Pin). p .expected) (pinTo nodes) ps);
-      }
