@@ -11,9 +11,9 @@ use Rattle.meaning.specs.declared.Reading.the-variants as reading
 use Rattle.meaning.specs.Nodes.{docOf, readNodes}
 use Rattle.meaning.specs.Rules.{ruleAt, rulesOf, readRules}
 use Rattle.meaning.specs.Answer.{referredBy, judged, readVerdict, verdict, tellVerdict}
-use Rattle.nodes.specs.declared.Loaded.{Loaded}
-use Rattle.nodes.specs.declared.Loaded.the-variants.{Nodes, Refused as Unloaded}
-use Rattle.nodes.specs.declared.Columns.{Columns}
+use Rattle.columns.specs.declared.Loaded.{Loaded}
+use Rattle.columns.specs.declared.Loaded.the-variants.{Nodes, Refused as Unloaded}
+use Rattle.columns.specs.declared.Columns.{Columns}
 use Rattle.nodes.specs.Unpacking.{Unpacks}
 use Rattle.nodes.proofs.Held.{refused-image, held-image, size-held, whole-held, front-room}
 use Rattle.rules.specs.Table.{Table}

@@ -31,7 +31,7 @@ use Rattle.meaning.proofs.Sound.{Sound}
 use Rattle.meaning.proofs.Walks.{first-at}
 use Rattle.meaning.proofs.Places.{counted}
 use Rattle.meaning.proofs.Picks.{In, in-picked, picked-in}
-use Rattle.meaning.proofs.Slices.{Lives, lives, alive-lives, slice-alive}
+use Rattle.meaning.proofs.Slices.{Lives, lives, alive-lives, present-alive, slice-alive}
 use Rattle.meaning.proofs.Faults.{FirstFault, on-days, holds-none, fails-first}
 use Rattle.meaning.proofs.Timetable.{Nth}
 use Rattle.meaning.proofs.Windows.{NoFaultIn, FirstFaultIn, none-found}
@@ -237,7 +237,7 @@ module _ (doc : Doc) (q r : Rule) where
 -- The slice of a sound document.
 pub alive-listed : (doc : Doc) → Sound doc → (d v : ℕ) → In (slice doc d) v ↔ Lives doc d v
 alive-listed doc s d v =
-    rw (slice-alive doc s d) (
+    rw (slice-alive doc (present-alive doc s) d) (
       λ w. lives doc d v (in-picked (alive doc d) 0 (doc .size) v w .passes),
       λ l. picked-in (alive doc d) 0 (doc .size) v (record { from = omega arith; below = omega (arith, counted doc v (omega (arith, l .kind))); passes = alive-lives doc d v l }),
     )

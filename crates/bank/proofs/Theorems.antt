@@ -299,7 +299,7 @@ pub slice-stored : (nodes : List ℕ) (d : ℕ) (lent : List ℕ) (x : Listed) (
 slice-stored nodes d lent x after p n h =
     let w = slice-refusals nodes d lent x after p in
     let s = w .given .0 (n, h) .0 .document in
-    let e = Slices.slice-alive (docOf nodes) s d in
+    let e = Slices.slice-alive (docOf nodes) (Slices.present-alive (docOf nodes) s) d in
     (w .filled n h, record { ascending = rw e (pick-ascends (alive (docOf nodes) d) 0 (docOf nodes .size)); membership = Calls.alive-listed (docOf nodes) s d; picked = e })
 
 -- 3. Demand 3: the change days of a sequenced rule r, which refers to q, serve for its verdict x; m of them are stored.

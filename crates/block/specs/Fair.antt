@@ -13,14 +13,14 @@ pub record Fair (form : Form) : Type 0 where
   pub some : 1 ≤ form .each
   pub room : 8 + form .size * form .each ≤ 508
   pub each-small : form .each ≤ 25
-  pub most-small : form .most ≤ 40
+  pub most-small : form .most ≤ 65536
   pub base-small : form .base ≤ 20
 
 -- the 512 bytes of block b
 pub record OneBlock (form : Form) (b : ℕ) (part : List ℕ) : Type 0 where
   pub fair : Fair form
   pub whole : length part ≡ 512
-  pub near : b < 40
+  pub near : b < 65536
 
 -- a block that says it has no more records than there is room for
 pub record Roomy (form : Form) (part : List ℕ) : Type 0 where

@@ -87,8 +87,8 @@ fn header_fits(part: &[u8], form: Form, last: bool, b: usize) -> bool
 
 // How many records the b full blocks before a block have.
 fn records_before(form: Form, b: usize) -> usize
-    requires { ⌜ (form .each ≤ 25) × (b < 40) ⌝ }
-    ensures { λ r. ⌜ (r ≡ form .each * b) × (r ≤ 1000) ⌝ }
+    requires { ⌜ (form .each ≤ 25) × (b < 65536) ⌝ }
+    ensures { λ r. ⌜ (r ≡ form .each * b) × (r ≤ 25 * 65536) ⌝ }
 {
     form.each * b
 }

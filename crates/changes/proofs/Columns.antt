@@ -6,11 +6,10 @@ use mathlib.Core.List.{List}
 use Prim.Native.Nat.{ℕ, _+_, _≤_, _<_}
 use native.Mathlib.Omega.{arith}
 use lib.ListN.{length, getD, replicate, length-replicate, getD-replicate, List·getD-eq-default}
-use Rattle.meaning.specs.Document.{Doc, node}
+use Rattle.meaning.specs.Document.{Doc}
 use Rattle.meaning.proofs.Basics.{le-or-lt}
-use Rattle.meaning.proofs.Rows.{ItemRow, VersionRow}
-use Rattle.meaning.proofs.Accepted.{accepted-sound}
-use Rattle.document.specs.Lent.{Periods, Checked}
+use Rattle.columns.specs.Lent.{Periods}
+use Rattle.columns.specs.Judgeable.{Judgeable}
 use Rattle.marks.specs.Marks.{Marks}
 use Rattle.changes.specs.Turned.{Datable, Turned, Added}
 use Rattle.changes.proofs.Turning.{turned-more}
@@ -40,21 +39,14 @@ module _ {begins ends : List ℕ} where
     pub turn-end : (i : ℕ) {days : List ℕ} → i ≤ length begins → length begins ≤ i → Turned doc passes i before days → Turned doc passes (doc .size) before days
     turn-end i a b t = let e : i ≡ doc .size = omega (arith, w .begin .size) in rw e at t
 
--- an accepted document has no day past the century's end
-module _ {doc : Doc} {begins ends : List ℕ} (w : Periods doc begins ends) (c : Checked doc) where
-  dated : (i : ℕ) → i < doc .size → (doc .begin i < 36526) × (doc .end i < 36526)
-  dated i h =
-      ⊎-elim
-      (λ (item : ItemRow (node doc i)). (omega (arith, item .begin), omega (arith, item .end)))
-      (λ (version : VersionRow (node doc i)). (omega (arith, version .period, version .period-end), omega (arith, version .period-end)))
-      (accepted-sound doc (c .accepted) .records .table i h)
-
-  pub checked-datable : {days records : ℕ} → 36526 ≤ days → doc .size ≤ records → Datable begins ends days records
-  checked-datable a b =
+-- a document that can be judged has no day past the century's end
+module _ {doc : Doc} {begins ends : List ℕ} (w : Periods doc begins ends) (c : Judgeable doc) where
+  pub judgeable-datable : {days records : ℕ} → 36526 ≤ days → doc .size ≤ records → Datable begins ends days records
+  judgeable-datable a b =
       record {
         doc = doc;
         periods = w;
-        dated = record { begin = λ i h. omega (arith, dated i h .0); end = λ i h. omega (arith, dated i h .1) };
+        dated = record { begin = λ i h. omega (arith, c .dated i h .0); end = λ i h. omega (arith, c .dated i h .1) };
         room = b;
       }
 
@@ -67,12 +59,12 @@ day-zeros n d =
     (le-or-lt n d)
 
 -- fresh marks, one for each day, serve for the change days of a rule over an accepted document
-pub markable : {doc : Doc} {begins ends : List ℕ} → Periods doc begins ends → Checked doc → {own referred first : ℕ} → doc .size ≤ own → doc .size ≤ referred → first < 36526
+pub markable : {doc : Doc} {begins ends : List ℕ} → Periods doc begins ends → Judgeable doc → {own referred first : ℕ} → doc .size ≤ own → doc .size ≤ referred → first < 36526
     → Datable begins ends (length (replicate {A = ℕ} 36526 0)) own × Datable begins ends (length (replicate {A = ℕ} 36526 0)) referred
     × (first < length (replicate {A = ℕ} 36526 0)) × ((d : ℕ) → _≡_ {A = ℕ} (getD (replicate 36526 0) d 0) 0)
 markable w c a b f =
     let all = length-replicate {A = ℕ} 36526 0 in
-    (checked-datable w c (omega (arith, all)) a, checked-datable w c (omega (arith, all)) b, omega (arith, f, all), day-zeros 36526)
+    (judgeable-datable w c (omega (arith, all)) a, judgeable-datable w c (omega (arith, all)) b, omega (arith, f, all), day-zeros 36526)
 
 -- what fresh marks have room for
 pub each-day : {passes : ℕ → Bool} {days : List ℕ} → Marks passes (length (replicate {A = ℕ} 36526 0)) days → Marks passes 36526 days

@@ -8,7 +8,7 @@ use lib.ListN.{length}
 use Rattle.meaning.specs.Walk.{any}
 use Rattle.meaning.specs.Document.{Doc}
 use Rattle.meaning.specs.Day.{turns}
-use Rattle.document.specs.Lent.{Periods}
+use Rattle.columns.specs.Lent.{Periods}
 use Rattle.marks.specs.Marks.{marked}
 
 -- every begin and end is one of n days

@@ -9,7 +9,7 @@ ghost use Rattle.meaning.specs.Document.{Doc};
 ghost use Rattle.meaning.specs.Rules.{isReference};
 ghost use Rattle.meaning.specs.Select.{readsOwn};
 ghost use Rattle.meaning.specs.Day.{isChange};
-ghost use Rattle.document.specs.Lent.{Periods};
+ghost use Rattle.columns.specs.Lent.{Periods};
 ghost use Rattle.marks.specs.Marks.{Marks};
 ghost use Rattle.changes.specs.Turned.{Datable, Added, Turned};
 

@@ -9,7 +9,7 @@ use Rattle.meaning.specs.declared.Rule.{Rule}
 use Rattle.meaning.specs.Document.{Doc, numberOf}
 use Rattle.meaning.specs.Select.{selected}
 use Rattle.marks.proofs.After.{Next, after-is}
-use Rattle.document.specs.Columns.{limit}
+use Rattle.meaning.specs.Block.{limit}
 use Rattle.groups.specs.Groups.{inGroup}
 use Rattle.day.specs.Row.{Chain}
 use Rattle.counting.specs.Number.{Fits}
@@ -24,7 +24,7 @@ module _ (doc : Doc) (r : Rule) (start : ℕ) (next begins ends reps groups last
   next-room = omega (arith, sized, s .skips .room)
 
   pub few : length begins ≤ limit
-  few = omega (arith, sized, s .checked .few)
+  few = omega (arith, sized, s .judgeable .few)
 
   pub fits : (done seen : List ℕ) → doc .size ≤ length done → doc .size ≤ length seen → Fits (length begins) ends reps groups last lower done seen
   fits done seen a b =
@@ -37,7 +37,7 @@ module _ (doc : Doc) (r : Rule) (start : ℕ) (next begins ends reps groups last
           lower-room = s .gathered .lower-room;
           seen-room = b;
         };
-        few = s .checked .few;
+        few = s .judgeable .few;
         group-room = s .classes .room;
         group-low = s .classes .low;
         last-room = s .gathered .last-room;

@@ -21,9 +21,8 @@ use Rattle.meaning.proofs.Walks.{any-some, any-true, count-same, first-same}
 use Rattle.meaning.proofs.Says.{says}
 use Rattle.meaning.proofs.Selects.{selected-version, selected-here}
 use Rattle.meaning.proofs.Slices.{stands}
-use Rattle.meaning.proofs.Sound.{Version}
-use Rattle.meaning.proofs.Accepted.{accepted-sound}
-use Rattle.document.specs.Lent.{Periods, Checked}
+use Rattle.columns.specs.Lent.{Periods}
+use Rattle.columns.specs.Judgeable.{Judgeable}
 use Rattle.values.specs.Represents.{Represents}
 use Rattle.prepare.specs.Rows.{wants, inRow}
 use Rattle.groups.specs.Groups.{inGroup}
@@ -34,17 +33,15 @@ use Rattle.counting.specs.Ready.{Ready, Terms}
 use Rattle.counting.proofs.Numbering.{first-of-value}
 use Rattle.counting.proofs.Looking.{offending}
 
--- an accepted document in a window
-module _ (doc : Doc) (checked : Checked doc) (w : Window) where
+-- a document that can be judged, in a window
+module _ (doc : Doc) (judgeable : Judgeable doc) (w : Window) where
   -- a version that is not of the root stands in one that lasts as long or longer
   above-meets : (f : ℕ) → 0 < doc .parent f → meets doc w f ≡ true → meets doc w (above doc f) ≡ true
   unfolding meets
   above-meets f q e =
-      let sound = accepted-sound doc (checked .accepted) in
       let m = simp says at e in
-      let s = stands doc (sound .records) f (m .0 .0) in
-      let is : Version doc (doc .parent f) f = record { here = s .here; kind = m .0 .0; of = refl } in
-      simp says ((s .over q .1, omega (arith, sound .placed .after (doc .parent f) f q is)), omega (arith, sound .placed .before (doc .parent f) f q is))
+      let w = judgeable .seated f (m .0 .0) .over q in
+      simp says ((w .version, omega (arith, w .from)), omega (arith, w .to))
 
   module _ (r : Rule) (windowed : isSequenced r ≡ false) where
     wants-valued : (f : ℕ) → wants doc r f ≡ valued doc f
@@ -59,9 +56,8 @@ module _ (doc : Doc) (checked : Checked doc) (w : Window) where
         (λ z. rw (eqb-true f v (rw z at e)) at m)
         (λ z.
         let up : above doc f ≡ v = (simp says at (rw z at e)) .1 in
-        let root = accepted-sound doc (checked .accepted) .records .root-parent in
         let here = selected-here doc r v s in
-        let some : doc .parent f ≡ 0 → ⊥ = λ q. omega (arith, ap (doc .parent) q, root (omega arith), checked .few) in
+        let some : doc .parent f ≡ 0 → ⊥ = λ q. omega (arith, ap (doc .parent) q, judgeable .top) in
         rw up at (above-meets f (omega arith) m))
         (went (eqb (r .field) 0))
 
@@ -169,4 +165,4 @@ module _ (doc : Doc) (r : Rule) (start : ℕ) (next begins ends reps groups last
       ap (λ n. first (offending (selected doc r) (touches begins ends from to) (λ v. breaks (touches begins ends from to) n (λ f. getD reps f 0) distinct low high (inGroup doc r (numberOf doc v)))) 0 n)
       (s .periods .begin .size)
       ∙ rw (sym a, sym b)
-      (first-same _ _ 0 (doc .size) (λ v i j. offends-is doc (s .checked) w r (s .windowed) begins ends reps (s .periods) (s .represents) q distinct low high terms v))
+      (first-same _ _ 0 (doc .size) (λ v i j. offends-is doc (s .judgeable) w r (s .windowed) begins ends reps (s .periods) (s .represents) q distinct low high terms v))

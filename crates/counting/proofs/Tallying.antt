@@ -11,8 +11,8 @@ use Rattle.meaning.specs.Walk.{any, count}
 use Rattle.meaning.proofs.Basics.{and-l}
 use Rattle.meaning.proofs.Walks.{count-same}
 use Rattle.meaning.proofs.Loops.{any-last}
-use Rattle.document.specs.Chains.{pastLast}
-use Rattle.document.proofs.Along.{past-low, past-in, along-start}
+use Rattle.columns.specs.Chains.{pastLast}
+use Rattle.columns.proofs.Along.{past-low, past-in, along-start}
 use Rattle.day.specs.Row.{Chain, stamped}
 use Rattle.day.proofs.Tallying.{count-last, past-count}
 use Rattle.counting.specs.Number.{Below, Weighed, numberIn}

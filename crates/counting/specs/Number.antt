@@ -7,7 +7,7 @@ use Prim.Native.Nat.{ℕ, _≤_, _<_}
 use lib.Dec.{ltb, eqb}
 use lib.ListN.{length, getD}
 use Rattle.meaning.specs.Walk.{any, count}
-use Rattle.document.specs.Columns.{limit}
+use Rattle.meaning.specs.Block.{limit}
 use Rattle.day.specs.Row.{UpTo, stamped, outside}
 
 -- the period of record i shares a day with the window from `from` up to, not including, `to`

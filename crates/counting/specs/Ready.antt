@@ -9,7 +9,8 @@ use Rattle.meaning.specs.declared.Rule.{Rule}
 use Rattle.meaning.specs.Document.{Doc}
 use Rattle.meaning.specs.Rules.{isSequenced}
 use Rattle.meaning.specs.Select.{selected}
-use Rattle.document.specs.Lent.{Periods, Checked}
+use Rattle.columns.specs.Lent.{Periods}
+use Rattle.columns.specs.Judgeable.{Judgeable}
 use Rattle.values.specs.Represents.{Represents}
 use Rattle.prepare.specs.Holders.{Skips}
 use Rattle.groups.specs.Groups.{Groups, Gathered}
@@ -17,7 +18,7 @@ use Rattle.groups.specs.Groups.{Groups, Gathered}
 -- an accepted document and a non-sequenced rule: the selected versions one after the other, the columns that are read along them, and the
 -- field versions under each item number
 pub record Ready (doc : Doc) (r : Rule) (start : ℕ) (next begins ends reps groups last lower : List ℕ) : Type 0 where
-  pub checked : Checked doc
+  pub judgeable : Judgeable doc
   pub windowed : isSequenced r ≡ false
   pub skips : Skips (selected doc r) (doc .size) start next
   pub periods : Periods doc begins ends

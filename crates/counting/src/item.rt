@@ -1,11 +1,11 @@
 // One item number in a window: how many of its field versions, or of their values, are present, and whether that is out of range.
-use document::LIMIT;
+use columns::LIMIT;
 use numbers::index;
 ghost use mathlib.Core.Path.{_≡_};
 ghost use mathlib.Core.Bool.{Bool, true};
 ghost use Prim.Native.Nat.{ℕ, _+_, _*_, _<_, _≤_};
 ghost use lib.ListN.{length, getD};
-ghost use Rattle.document.specs.Columns.{limit};
+ghost use Rattle.meaning.specs.Block.{limit};
 ghost use Rattle.day.specs.Row.{Chain, UpTo};
 ghost use Rattle.counting.specs.Number.{touches, Room, Fits, Below, Weighed, numberIn, breaks, Met};
 

@@ -8,7 +8,7 @@ ghost use Rattle.meaning.specs.declared.Rule.{Rule};
 ghost use Rattle.meaning.specs.Walk.{first};
 ghost use Rattle.meaning.specs.Document.{Doc};
 ghost use Rattle.meaning.specs.Window.{Window, meets, offendsIn};
-ghost use Rattle.document.specs.Columns.{limit};
+ghost use Rattle.meaning.specs.Block.{limit};
 ghost use Rattle.day.specs.Ready.{Stamps};
 ghost use Rattle.counting.specs.Ready.{Ready, Terms};
 

@@ -17,7 +17,7 @@ use Rattle.meaning.specs.Day.{alive, values, sharesOnly, taken, key, unique, re
 use Rattle.meaning.proofs.Basics.{and-l, and-same}
 use Rattle.meaning.proofs.Walks.{any-none, any-same, count-same, first-same}
 use Rattle.meaning.proofs.Selects.{selected-version, field-version}
-use Rattle.document.specs.Lent.{Periods}
+use Rattle.columns.specs.Lent.{Periods}
 use Rattle.values.specs.Represents.{Represents}
 use Rattle.prepare.specs.Rows.{wantsBy, wants, inRow}
 use Rattle.day.specs.Ready.{counted, distinct, referring, TermsBy, Terms, Ready, Referred}

@@ -13,8 +13,8 @@ use Rattle.meaning.proofs.Basics.{went, never, clear, and-l, and-r}
 use Rattle.meaning.proofs.Walks.{any-none}
 use Rattle.meaning.proofs.Loops.{any-last}
 use Rattle.meaning.proofs.Says.{says}
-use Rattle.document.specs.Chains.{pastLast}
-use Rattle.document.proofs.Along.{past-low, past-in, along-start}
+use Rattle.columns.specs.Chains.{pastLast}
+use Rattle.columns.proofs.Along.{past-low, past-in, along-start}
 use Rattle.day.specs.Row.{Chain, number, Tallied}
 
 -- one number more at the far end

@@ -7,7 +7,7 @@ use lib.ListN.{length, getD}
 use Rattle.meaning.specs.declared.Rule.{Rule}
 use Rattle.meaning.specs.Document.{Doc}
 use Rattle.meaning.specs.Select.{valued}
-use Rattle.document.specs.Lent.{Periods}
+use Rattle.columns.specs.Lent.{Periods}
 use Rattle.values.specs.Represents.{Represents}
 use Rattle.prepare.specs.Rows.{wants, Rows}
 

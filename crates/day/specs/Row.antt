@@ -6,7 +6,7 @@ use Prim.Native.Nat.{ℕ, _≤_, _<_}
 use lib.Dec.{leb, ltb, eqb}
 use lib.ListN.{length, getD}
 use Rattle.meaning.specs.Walk.{any, count}
-use Rattle.document.specs.Chains.{pastLast}
+use Rattle.columns.specs.Chains.{pastLast}
 use Rattle.day.specs.Ready.{counted, referring}
 
 -- the period of record i, begin to end, has day d

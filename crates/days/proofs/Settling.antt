@@ -13,12 +13,11 @@ use Rattle.meaning.specs.Document.{Doc}
 use Rattle.meaning.specs.Rules.{isKey, isUnique, isReference, isSequenced, ruleFields}
 use Rattle.meaning.specs.Select.{readsOwn}
 use Rattle.meaning.specs.Day.{alive, offends, offender, isChange, onDays}
-use Rattle.meaning.proofs.Accepted.{accepted-sound}
-use Rattle.meaning.proofs.Slices.{present-alive}
 use Rattle.meaning.proofs.Over.{over}
 use Rattle.meaning.proofs.Changes.{verdict-changes}
-use Rattle.document.specs.Columns.{limit}
-use Rattle.document.specs.Lent.{Periods, Checked}
+use Rattle.meaning.specs.Block.{limit}
+use Rattle.columns.specs.Lent.{Periods}
+use Rattle.columns.specs.Judgeable.{Judgeable}
 use Rattle.marks.specs.Marks.{marked, Marks}
 use Rattle.values.specs.Represents.{Represents}
 use Rattle.prepare.specs.declared.Prepared.{Prepared}
@@ -47,7 +46,7 @@ module _ {doc : Doc} {q r : Rule} {own held : Prepared} {begins ends reps : List
         order = in-order r f;
         marks = omega (arith, last-few r f);
         days-few = last-few r f;
-        room = omega (arith, s .checked .few);
+        room = omega (arith, s .judgeable .few);
         clear = z;
       }
 
@@ -66,19 +65,19 @@ module _ {doc : Doc} {q r : Rule} {own held : Prepared} {begins ends reps : List
     same-offender : offenderAlive doc q r ≡ offender doc q r
     unfolding offender
     same-offender =
-        fun-ext (λ d. ap (λ (p : ℕ → Bool). first (offends doc p q r) 0 (doc .size)) (fun-ext (λ v. sym (present-alive doc (accepted-sound doc (s .checked .accepted)) d v))))
+        fun-ext (λ d. ap (λ (p : ℕ → Bool). first (offends doc p q r) 0 (doc .size)) (fun-ext (λ v. sym (s .judgeable .present d v))))
 
     pub judged : {days : List ℕ} → Marks (isChange doc q r) 36526 days → {x : Verdict}
         → x ≡ over (offenderAlive doc q r) (pick (marked days) (r .begin) (r .end - r .begin)) 0 → x ≡ onDays doc q r
     judged m e =
         e ∙ ap₂ (λ (g : ℕ → Found) (ds : List ℕ). over g ds 0) same-offender (change-list doc q r f m)
-        ∙ sym (verdict-changes doc q r (accepted-sound doc (s .checked .accepted)))
+        ∙ sym (verdict-changes doc q r (s .judgeable .present))
 
 -- what preparing has given, put together: p is q where r is a reference
 pub settled : {doc : Doc} {p q r : Rule} {own held : Prepared} {begins ends reps : List ℕ} → (isReference r ≡ true → p ≡ q) → (isReference r ≡ true → (isKey q || isUnique q) ≡ true)
     → Rows doc r (own .start) (own .next) (own .last) (own .lower) → Marks (readsOwn doc r) (doc .size) (own .read)
     → (isReference r ≡ true → Rowed doc q held) → (Rowed doc r own → (o : Rule) × Rowed doc o held)
-    → Periods doc begins ends → Represents doc reps → Checked doc → Settled doc p r own held begins ends reps
+    → Periods doc begins ends → Represents doc reps → Judgeable doc → Settled doc p r own held begins ends reps
 settled {doc} {p} {q} same kinds rows read referred some w v c =
     let own : Rowed doc _ _ = record { rows = rows; read = read } in
     let o = some own in
@@ -89,5 +88,5 @@ settled {doc} {p} {q} same kinds rows read referred some w v c =
       referred = λ e. rw (same e) (referred e, valued-only doc q (kinds e));
       periods = w;
       represents = v;
-      checked = c;
+      judgeable = c;
     }

@@ -11,7 +11,8 @@ use Rattle.meaning.specs.Document.{Doc}
 use Rattle.meaning.specs.Day.{alive, offends}
 use Rattle.meaning.specs.Rules.{isReference, isSequenced}
 use Rattle.meaning.specs.Select.{valued}
-use Rattle.document.specs.Lent.{Periods, Checked}
+use Rattle.columns.specs.Lent.{Periods}
+use Rattle.columns.specs.Judgeable.{Judgeable}
 use Rattle.values.specs.Represents.{Represents}
 use Rattle.prepare.specs.declared.Prepared.{Prepared}
 use Rattle.prepare.specs.Rows.{wants}
@@ -50,4 +51,4 @@ pub record Settled (doc : Doc) (q r : Rule) (own held : Prepared) (begins ends r
   pub referred : isReference r ≡ true → Rowed doc q held × ((f : ℕ) → wants doc q f ≡ valued doc f)
   pub periods : Periods doc begins ends
   pub represents : Represents doc reps
-  pub checked : Checked doc
+  pub judgeable : Judgeable doc

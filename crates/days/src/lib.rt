@@ -1,5 +1,5 @@
 // The verdict on a sequenced rule, over the columns of an accepted document: its change days are walked, and on each the lowest offender is looked for.
-use document::LIMIT;
+use columns::LIMIT;
 use meaning::Found;
 use meaning::Rule;
 use meaning::Verdict;
@@ -13,7 +13,8 @@ ghost use Rattle.meaning.specs.Walk.{pick};
 ghost use Rattle.meaning.specs.Rules.{isKey, isUnique, isReference, isSequenced, ruleFields};
 ghost use Rattle.meaning.specs.Day.{onDays};
 ghost use Rattle.meaning.proofs.Over.{over};
-ghost use Rattle.document.specs.Lent.{Tree, Values, Periods, Checked};
+ghost use Rattle.columns.specs.Lent.{Tree, Values, Periods};
+ghost use Rattle.columns.specs.Judgeable.{Judgeable};
 ghost use Rattle.marks.specs.Marks.{marked};
 ghost use Rattle.values.specs.Represents.{Represents};
 ghost use Rattle.days.specs.Judging.{Walkable, Posed, offenderAlive, Settled};
@@ -128,8 +129,8 @@ pub fn verdict(
     q: Rule,
     r: Rule,
 ) -> Verdict
-    requires { ⌜ (ruleFields r ≡ true) × (isReference r ≡ true → (ruleFields q ≡ true) × ((isKey q || isUnique q) ≡ true)) × ((doc : Doc) × Tree doc (now kind) (now name) (now parent) × Values doc (now kind) (now vkind) (now value) × Periods doc (now begin) (now end) × Represents doc (now rep) × Checked doc) ⌝ }
-    ensures { λ x. ⌜ ((doc : Doc) → (p : Rule) → Tree doc (now (kind .entry)) (now (name .entry)) (now (parent .entry)) → Values doc (now (kind .entry)) (now (vkind .entry)) (now (value .entry)) → Periods doc (now (begin .entry)) (now (end .entry)) → Represents doc (now (rep .entry)) → Checked doc → isSequenced r ≡ true → (isReference r ≡ true → p ≡ q) → x ≡ onDays doc p r) ⌝ }
+    requires { ⌜ (ruleFields r ≡ true) × (isReference r ≡ true → (ruleFields q ≡ true) × ((isKey q || isUnique q) ≡ true)) × ((doc : Doc) × Tree doc (now kind) (now name) (now parent) × Values doc (now kind) (now vkind) (now value) × Periods doc (now begin) (now end) × Represents doc (now rep) × Judgeable doc) ⌝ }
+    ensures { λ x. ⌜ ((doc : Doc) → (p : Rule) → Tree doc (now (kind .entry)) (now (name .entry)) (now (parent .entry)) → Values doc (now (kind .entry)) (now (vkind .entry)) (now (value .entry)) → Periods doc (now (begin .entry)) (now (end .entry)) → Represents doc (now (rep .entry)) → Judgeable doc → isSequenced r ≡ true → (isReference r ≡ true → p ≡ q) → x ≡ onDays doc p r) ⌝ }
 {
     let own = prepare::prepare(kind, vkind, name, parent, value, r);
     let held = prepare::prepare_referred(kind, vkind, name, parent, value, own, q, r);

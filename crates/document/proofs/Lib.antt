@@ -5,8 +5,6 @@ pub mod Seen
 pub mod Ends
 pub mod Ways
 pub mod Handed
-pub mod Along
-pub mod Linking
 pub mod Meeting
 pub mod Pairs
 pub mod Lowering

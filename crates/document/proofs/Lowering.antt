@@ -1,25 +1,19 @@
 -- A walk down the chain of an item's key finds what the walk over all lower records finds: the items that it clashes with.
-use mathlib.Core.Path.{_≡_, refl, sym, _∙_}
-use mathlib.Core.Bool.{Bool, true, false, _&&_}
-use mathlib.Core.List.{List, []}
+use mathlib.Core.Path.{_≡_, sym, _∙_}
+use mathlib.Core.Bool.{Bool, true, false}
+use mathlib.Core.List.{List}
 use Prim.Native.Nat.{ℕ, _-_, _≤_, _<_}
 use native.Mathlib.Omega.{arith}
-use lib.Dec.{eqb}
-use lib.ListN.{length, getD}
+use lib.ListN.{getD}
 use borrow.Author.Tests.{eq-eqb, ne-eqb}
 use Rattle.meaning.specs.Walk.{any}
-use Rattle.meaning.specs.Document.{Doc, columns, isItem}
+use Rattle.meaning.specs.Document.{Doc}
 use Rattle.meaning.specs.Nodes.{clash, clashes}
-use Rattle.meaning.proofs.Basics.{both}
 use Rattle.meaning.proofs.Says.{says}
 use Rattle.meaning.proofs.Places.{counted}
-use Rattle.document.specs.Chains.{pastLast, Grouped, Chained}
-use Rattle.document.specs.Meet.{Twins}
-use Rattle.document.proofs.Along.{Along, past-low, along-start, along-hit, along-next, along-end}
-
--- record j is an item with this key
-abbrev pub hasKey : (doc : Doc) → (ℕ → ℕ) → ℕ → ℕ → Bool
-hasKey doc key k j = isItem doc j && eqb (key j) k
+use Rattle.columns.specs.Chains.{pastLast, Twins}
+use Rattle.columns.proofs.Twins.{hasKey}
+use Rattle.columns.proofs.Along.{Along, past-low, along-start, along-hit, along-next, along-end}
 
 -- the walk has come to the item below `at`; it looks for one that item i clashes with
 abbrev pub Lowered : Doc → (ℕ → ℕ) → ℕ → ℕ → Type 0
@@ -70,14 +64,3 @@ module _ (doc : Doc) (twin : List ℕ) (tw : Twins doc twin) (i : ℕ) (h : i < 
 
         pub lowered-next : (r : Bool) → r ≡ clash doc i (at - 1) → r ≡ false → Lowered doc (tw .key) i next
         lowered-next r found n = along-next m (clash doc i) shared i at s b (sym found ∙ n) next step
-
--- the records of kind 1, chained by the keys of their numbers
-pub twins-of : (kinds names parents begins ends items : List ℕ) (room : ℕ) (keys last lower : List ℕ) → length items ≡ length kinds → Grouped room items keys
-    → Chained room kinds keys 1 (length kinds) last lower → Twins (columns kinds [] names parents begins ends [] items []) lower
-twins-of kinds names parents begins ends items room keys last lower e s c =
-    record {
-      room = omega arith;
-      key = λ i. getD keys i 0;
-      same = λ i j h l n. s .same i j (omega arith) (omega arith) n;
-      steps = λ i h k. c .steps (getD keys i 0) i (s .small i (omega arith)) h (both (eqb (getD kinds i 0) 1) (eqb (getD keys i 0) (getD keys i 0)) k (eq-eqb (getD keys i 0) (getD keys i 0) refl));
-    }

@@ -7,8 +7,8 @@ use native.Mathlib.Omega.{arith}
 use lib.ListN.{getD}
 use Rattle.meaning.specs.Walk.{any}
 use Rattle.meaning.proofs.Basics.{and-l}
-use Rattle.document.specs.Chains.{pastLast, keyed, Chained}
-use Rattle.document.proofs.Along.{Along, past-low, along-start, along-hit, along-next, along-end}
+use Rattle.columns.specs.Chains.{pastLast, keyed, Chained}
+use Rattle.columns.proofs.Along.{Along, past-low, along-start, along-hit, along-next, along-end}
 
 -- the walk over the records of kind `want` with the key k has come to the one below `at`; it looks for one that passes g
 abbrev pub Down : List ℕ → List ℕ → ℕ → ℕ → ℕ → (ℕ → Bool) → ℕ → Type 0

@@ -4,10 +4,7 @@ use mathlib.Core.List.{List}
 use Prim.Native.Nat.{ℕ, _≤_}
 use lib.IntN.{ℤ}
 use lib.ListN.{length}
-
--- the most records of a document
-abbrev pub limit : ℕ
-limit = 1000
+use Rattle.meaning.specs.Block.{limit}
 
 -- all nine columns
 pub record Even (kinds vkinds names parents begins ends : List ℕ) (values : List ℤ) (items spares : List ℕ) : Type 0 where

@@ -1,8 +1,6 @@
 -- The definitions that the contracts cite.
 pub mod Columns
-pub mod Lent
 pub mod Decoding
 pub mod Steady
 pub mod Level
-pub mod Chains
 pub mod Meet

@@ -4,7 +4,7 @@ use mathlib.Core.List.{List, []}
 use Prim.Native.Nat.{ℕ, _<_, _≤_}
 use lib.ListN.{length, getD}
 use Rattle.meaning.specs.Document.{Doc, columns}
-use Rattle.document.specs.Columns.{limit}
+use Rattle.meaning.specs.Block.{limit}
 
 -- the document in the columns that 7 reads
 abbrev pub periods : List ℕ → List ℕ → List ℕ → List ℕ → Doc

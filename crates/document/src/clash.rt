@@ -1,7 +1,7 @@
 // 9: the lowest item that has the number of a lower one, and another name or a shared day. Only items of one key are compared, and
 // only versions of items of one number: `past_j`, `past_u` and `past_v` are one past a record of a chain, and 0 at its end.
-use crate::chains::buckets;
-use crate::chains::chain;
+use columns::chains::buckets;
+use columns::chains::chain;
 use meaning::Found;
 use numbers::index;
 ghost use mathlib.Core.Path.{_≡_};
@@ -12,9 +12,9 @@ ghost use Rattle.meaning.specs.Walk.{first};
 ghost use Rattle.meaning.specs.Document.{columns};
 ghost use Rattle.meaning.specs.Nodes.{shareDay, overlap, clash, clashes};
 ghost use Rattle.document.specs.Level.{Level};
-ghost use Rattle.document.specs.Columns.{limit};
-ghost use Rattle.document.specs.Chains.{Chained};
-ghost use Rattle.document.specs.Meet.{meetsItem, Twins};
+ghost use Rattle.meaning.specs.Block.{limit};
+ghost use Rattle.columns.specs.Chains.{Chained, Twins};
+ghost use Rattle.document.specs.Meet.{meetsItem};
 
 // Whether versions u and v share a day.
 fn share_day(begin: &[u16], end: &[u16], u: usize, v: usize) -> bool

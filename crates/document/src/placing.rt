@@ -1,5 +1,5 @@
 // The test 7 in one pass over the versions: for each item record the end of its last version so far.
-use crate::LIMIT;
+use columns::LIMIT;
 use meaning::Found;
 use numbers::index;
 ghost use mathlib.Core.Path.{_≡_};

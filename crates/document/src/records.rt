@@ -1,5 +1,5 @@
 // The tests 4, 5, 6 and 8, record by record: a record is gathered from the columns, decoded, and its depth kept in a column.
-use crate::LIMIT;
+use columns::LIMIT;
 use meaning::Node;
 use meaning::Reading;
 use numbers::index;

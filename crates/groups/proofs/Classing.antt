@@ -14,9 +14,8 @@ use Rattle.meaning.proofs.Basics.{tests-same}
 use Rattle.meaning.proofs.Walks.{first-found}
 use Rattle.meaning.proofs.Says.{says}
 use Rattle.meaning.proofs.Selects.{version-here}
-use Rattle.meaning.proofs.Slices.{Stands, stands}
-use Rattle.meaning.proofs.Accepted.{accepted-sound}
-use Rattle.document.specs.Lent.{Numbers, Checked}
+use Rattle.columns.specs.Lent.{Numbers}
+use Rattle.columns.specs.Judgeable.{Seated, Judgeable}
 use Rattle.groups.specs.Groups.{Groups}
 use Rattle.groups.specs.Classes.{held, Nested, numbered, Class, ClassedBelow}
 
@@ -62,9 +61,9 @@ class-of-parent kinds parents items n v k classes s i e =
 
 -- a document is classed as the three columns that hold it are
 module _ (doc : Doc) (kinds parents items : List ℕ) (n : Numbers doc kinds parents items) where
-  pub nested-of : Checked doc → Nested kinds parents items
+  pub nested-of : Judgeable doc → Nested kinds parents items
   nested-of c =
-      let place : (v : ℕ) → getD kinds v 0 ≡ 2 → Stands doc v = λ v k. stands doc (accepted-sound doc (c .accepted) .records) v (sym (n .kind .at v) ∙ k) in
+      let place : (v : ℕ) → getD kinds v 0 ≡ 2 → Seated doc v = λ v k. c .seated v (sym (n .kind .at v) ∙ k) in
       record {
         few = omega (arith, n .kind .size, c .few);
         parent = n .parent .size ∙ sym (n .kind .size);

@@ -12,10 +12,9 @@ use Rattle.meaning.specs.Document.{Doc}
 use Rattle.meaning.proofs.Walks.{any-false, first-at}
 use Rattle.meaning.proofs.Places.{counted}
 use Rattle.meaning.proofs.Says.{says}
-use Rattle.document.specs.Chains.{pastLast}
-use Rattle.document.specs.Meet.{Twins}
-use Rattle.document.proofs.Along.{Along, past-low, along-start, along-next, along-end}
-use Rattle.document.proofs.Lowering.{hasKey}
+use Rattle.columns.specs.Chains.{pastLast, Twins}
+use Rattle.columns.proofs.Along.{Along, past-low, along-start, along-next, along-end}
+use Rattle.columns.proofs.Twins.{hasKey}
 use Rattle.groups.specs.Classes.{numbered, Class, ClassedBelow}
 
 -- the walk has come to the item below `at`; it looks for one with the number of i

@@ -15,9 +15,9 @@ use Rattle.meaning.proofs.Basics.{tests-same, le-or-lt, and-l, and-r, both}
 use Rattle.meaning.proofs.Walks.{any-some, any-true}
 use Rattle.meaning.proofs.Says.{says}
 use Rattle.meaning.proofs.Selects.{version-here, selected-version, selected-here, field-version}
-use Rattle.document.specs.Columns.{limit}
-use Rattle.document.specs.Chains.{pastLast, keyed, Chained}
-use Rattle.document.specs.Lent.{Lends}
+use Rattle.meaning.specs.Block.{limit}
+use Rattle.columns.specs.Chains.{pastLast, keyed, Chained}
+use Rattle.columns.specs.Lent.{Lends}
 use Rattle.prepare.specs.Rows.{inRow}
 use Rattle.prepare.specs.Keys.{Keys}
 use Rattle.prepare.proofs.Keying.{past-alike}

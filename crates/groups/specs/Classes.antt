@@ -8,7 +8,7 @@ use lib.ListN.{length, getD}
 use Rattle.meaning.specs.declared.Found.the-variants.{At}
 use Rattle.meaning.specs.Walk.{first}
 use Rattle.meaning.specs.Document.{Doc, columns, isItem, isVersion, numberOf}
-use Rattle.document.specs.Columns.{limit}
+use Rattle.meaning.specs.Block.{limit}
 
 -- the document of three columns, of which nothing else is asked
 abbrev pub held : List ℕ → List ℕ → List ℕ → Doc

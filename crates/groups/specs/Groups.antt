@@ -9,7 +9,7 @@ use Rattle.meaning.specs.declared.Rule.{Rule}
 use Rattle.meaning.specs.Walk.{any}
 use Rattle.meaning.specs.Document.{Doc, isVersion, numberOf}
 use Rattle.meaning.specs.Select.{selected}
-use Rattle.document.specs.Chains.{pastLast}
+use Rattle.columns.specs.Chains.{pastLast}
 use Rattle.prepare.specs.Rows.{inRow}
 
 -- a class for each version, the same for two versions exactly where their item numbers are equal

@@ -1,17 +1,18 @@
 // Item numbers: a class for each version by its item number, and the field versions under one item number as a chain.
-use document::LIMIT;
-use document::chains::Links;
-use document::chains::buckets;
-use document::chains::chain;
+use columns::LIMIT;
+use columns::chains::Links;
+use columns::chains::buckets;
+use columns::chains::chain;
 use numbers::index;
 ghost use mathlib.Core.Path.{_≡_};
 ghost use Prim.Native.Nat.{ℕ, _<_, _≤_};
 ghost use lib.ListN.{length, getD};
 ghost use Rattle.meaning.specs.declared.Rule.{Rule};
 ghost use Rattle.meaning.specs.Document.{Doc};
-ghost use Rattle.document.specs.Columns.{limit};
-ghost use Rattle.document.specs.Lent.{Lends, Numbers, Checked};
-ghost use Rattle.document.specs.Meet.{Twins};
+ghost use Rattle.meaning.specs.Block.{limit};
+ghost use Rattle.columns.specs.Lent.{Lends, Numbers};
+ghost use Rattle.columns.specs.Judgeable.{Judgeable};
+ghost use Rattle.columns.specs.Chains.{Twins};
 ghost use Rattle.prepare.specs.Keys.{Keys};
 ghost use Rattle.groups.specs.Groups.{Groups, Gathered};
 ghost use Rattle.groups.specs.Classes.{Nested, held, Class, ClassedBelow, classAt};
@@ -72,7 +73,7 @@ fn classes(kind: &[u8], parent: &[u16], item: &[u32], twin: &[u16]) -> [u16; LIM
 // A class for each version of a document, by its item number.
 // Cost: three passes over the columns where the keys of the items differ, and a look for each pair of items with one key at worst.
 pub fn group(kind: &[u8], parent: &[u16], item: &[u32]) -> [u16; LIMIT]
-    requires { ⌜ ((doc : Doc) × Numbers doc (now kind) (now parent) (now item) × Checked doc) ⌝ }
+    requires { ⌜ ((doc : Doc) × Numbers doc (now kind) (now parent) (now item) × Judgeable doc) ⌝ }
     ensures { λ r. ⌜ ((doc : Doc) → Numbers doc (now (kind .entry)) (now (parent .entry)) (now (item .entry)) → Groups doc r) ⌝ }
 {
     let key = buckets(item);

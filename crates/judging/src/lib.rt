@@ -1,5 +1,5 @@
-// The verdict on one rule of an accepted table, over the columns of an accepted document: on days or in windows, as the rule says.
-use document::LIMIT;
+// The verdict on one rule over the columns of a document: on days or in windows, as the rule says.
+use columns::LIMIT;
 use meaning::Rule;
 use meaning::Verdict;
 ghost use mathlib.Core.Path.{_≡_};
@@ -11,23 +11,10 @@ ghost use Rattle.meaning.specs.declared.Reading.the-variants.{Accepted};
 ghost use Rattle.meaning.specs.Document.{Doc};
 ghost use Rattle.meaning.specs.Rules.{isKey, isUnique, isReference, ruleFields, ruleAt, rulesOf, readRules};
 ghost use Rattle.meaning.specs.Answer.{referredBy, judged};
-ghost use Rattle.document.specs.Columns.{limit};
-ghost use Rattle.document.specs.Lent.{Values, Whole};
+ghost use Rattle.meaning.specs.Block.{limit};
+ghost use Rattle.columns.specs.Lent.{Values, Whole};
 ghost use Rattle.values.specs.Represents.{Represents};
-ghost use Rattle.judging.specs.Fronts.{Fronts};
-
-// A representative for each value in the first n entries of the columns, found once for all rules. Cost: as `values::represent`.
-pub fn represent_front<'a>(
-    n: usize,
-    kind: &'a [u8],
-    vkind: &'a [u8],
-    value: &'a [i32],
-) -> [u16; LIMIT]
-    requires { ⌜ (n ≤ length (now kind)) × (n ≤ length (now vkind)) × (n ≤ length (now value)) × ((doc : Doc) × Values doc (take (n - 0) (now kind)) (take (n - 0) (now vkind)) (take (n - 0) (now value)) × (doc .size ≤ limit)) ⌝ }
-    ensures { λ r. ⌜ ((doc : Doc) → Values doc (take (n - 0) (now (kind .entry))) (take (n - 0) (now (vkind .entry))) (take (n - 0) (now (value .entry))) → Represents doc r) ⌝ }
-{
-    values::represent(&kind[0..n], &vkind[0..n], &value[0..n])
-}
+ghost use Rattle.columns.specs.Lent.{Fronts};
 
 // The verdict on rule r, which refers to q if it is a reference.
 fn judge_columns(
@@ -64,8 +51,8 @@ fn judge_columns(
     )
 }
 
-// The same over the first n entries of the columns.
-fn judge_front(
+// The same over the first n entries of the columns, with a representative for each value.
+pub fn judge_front(
     n: usize,
     kind: &[u8],
     vkind: &[u8],
@@ -91,44 +78,6 @@ fn judge_front(
         &end[0..n],
         &value[0..n],
         &item[0..n],
-        rep,
-        q,
-        r,
-    )
-}
-
-// The verdict on rule k of an accepted table, over the first n entries of the columns, with a representative for each value.
-// Cost: reading the rule, and the rule that it refers to, from the image; then the verdict on days or in windows.
-pub fn judge_rule<'a>(
-    n: usize,
-    kind: &'a [u8],
-    vkind: &'a [u8],
-    name: &'a [u16],
-    parent: &'a [u16],
-    begin: &'a [u16],
-    end: &'a [u16],
-    value: &'a [i32],
-    item: &'a [u32],
-    rep: &[u16],
-    rules: &[u8],
-    k: usize,
-) -> Verdict
-    requires bank { ⌜ ((f : Fronts n (now kind) (now vkind) (now name) (now parent) (now begin) (now end) (now value) (now item)) × Represents (f .doc) (now rep)) ⌝ }
-    requires table { ⌜ (readRules (now rules) ≡ Accepted) × (k < length (rulesOf (now rules))) ⌝ }
-    ensures { λ x. ⌜ ((doc : Doc) → Whole doc (take (n - 0) (now (kind .entry))) (take (n - 0) (now (vkind .entry))) (take (n - 0) (now (name .entry))) (take (n - 0) (now (parent .entry))) (take (n - 0) (now (begin .entry))) (take (n - 0) (now (end .entry))) (take (n - 0) (now (value .entry))) (take (n - 0) (now (item .entry))) → Represents doc (now (rep .entry)) → x ≡ judged doc (referredBy (rulesOf (now (rules .entry))) k) (ruleAt (rulesOf (now (rules .entry))) k)) ⌝ }
-{
-    let r = rules::rule_at(rules, k);
-    let q = rules::referred_rule(rules, k);
-    judge_front(
-        n,
-        kind,
-        vkind,
-        name,
-        parent,
-        begin,
-        end,
-        value,
-        item,
         rep,
         q,
         r,

@@ -13,7 +13,7 @@ use Rattle.meaning.specs.declared.Listed.{Listed}
 use Rattle.meaning.specs.Document.{Doc}
 use Rattle.meaning.specs.Day.{alive}
 use Rattle.meaning.specs.Answer.{storing, lentAfter}
-use Rattle.document.specs.Lent.{Lends, Periods}
+use Rattle.columns.specs.Lent.{Lends, Periods}
 use Rattle.marks.specs.Marks.{marked, Marks}
 
 -- the numbers below i are marked where they pass

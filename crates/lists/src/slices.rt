@@ -1,5 +1,5 @@
-// The versions alive on a day, marked and stored.
-use document::LIMIT;
+// The slice of a day: the versions alive on it, marked and stored.
+use columns::LIMIT;
 use meaning::Listed;
 ghost use mathlib.Core.Path.{_≡_};
 ghost use mathlib.Core.Bool.{_&&_};
@@ -7,11 +7,12 @@ ghost use Prim.Native.Nat.{_-_, _≤_};
 ghost use lib.Dec.{eqb, leb, ltb};
 ghost use lib.ListN.{length, take};
 ghost use Rattle.meaning.specs.declared.Reading.the-variants.{Accepted};
+ghost use Rattle.meaning.specs.Block.{limit};
 ghost use Rattle.meaning.specs.Walk.{pick};
 ghost use Rattle.meaning.specs.Document.{Doc};
 ghost use Rattle.meaning.specs.Day.{alive};
 ghost use Rattle.meaning.specs.Answer.{storing, lentAfter};
-ghost use Rattle.document.specs.Lent.{Lends, Periods};
+ghost use Rattle.columns.specs.Lent.{Lends, Periods};
 ghost use Rattle.marks.specs.Marks.{Marks};
 ghost use Rattle.lists.specs.Lending.{Living};
 
@@ -39,7 +40,7 @@ fn mark_alive(kind: &[u8], begin: &[u16], end: &[u16], d: u16, marks: &mut [u8])
 
 // The versions alive on day d, into a lent list. Cost: three looks at each record.
 fn slice_columns(kind: &[u8], begin: &[u16], end: &[u16], d: u16, out: &mut [u16]) -> Listed
-    requires { ⌜ Living (now kind) (now begin) (now end) 1000 ⌝ }
+    requires { ⌜ Living (now kind) (now begin) (now end) limit ⌝ }
     ensures answer { λ r. ⌜ ((doc : Doc) → Lends (doc .size) (doc .kind) 0 (now (kind .entry)) → Periods doc (now (begin .entry)) (now (end .entry)) → r ≡ storing Accepted (pick (alive doc d) 0 (doc .size)) (now (out .entry))) ⌝ }
     ensures lent { λ r. ⌜ ((doc : Doc) → Lends (doc .size) (doc .kind) 0 (now (kind .entry)) → Periods doc (now (begin .entry)) (now (end .entry)) → now (out .exit) ≡ lentAfter r (pick (alive doc d) 0 (doc .size)) (now (out .entry))) ⌝ }
 {
@@ -57,7 +58,7 @@ pub fn slice_front(
     d: u16,
     out: &mut [u16],
 ) -> Listed
-    requires { ⌜ (n ≤ 1000) × (n ≤ length (now kind)) × (n ≤ length (now begin)) × (n ≤ length (now end)) ⌝ }
+    requires { ⌜ (n ≤ limit) × (n ≤ length (now kind)) × (n ≤ length (now begin)) × (n ≤ length (now end)) ⌝ }
     ensures answer { λ r. ⌜ ((doc : Doc) → Lends (doc .size) (doc .kind) 0 (take (n - 0) (now (kind .entry))) → Periods doc (take (n - 0) (now (begin .entry))) (take (n - 0) (now (end .entry))) → r ≡ storing Accepted (pick (alive doc d) 0 (doc .size)) (now (out .entry))) ⌝ }
     ensures lent { λ r. ⌜ ((doc : Doc) → Lends (doc .size) (doc .kind) 0 (take (n - 0) (now (kind .entry))) → Periods doc (take (n - 0) (now (begin .entry))) (take (n - 0) (now (end .entry))) → now (out .exit) ≡ lentAfter r (pick (alive doc d) 0 (doc .size)) (now (out .entry))) ⌝ }
 {

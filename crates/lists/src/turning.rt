@@ -1,7 +1,6 @@
 // The change days of a rule, marked and stored.
-use document::LIMIT;
+use columns::LIMIT;
 use meaning::Listed;
-use meaning::Reading;
 use meaning::Rule;
 ghost use mathlib.Core.Path.{_≡_};
 ghost use mathlib.Core.Bool.{true};
@@ -14,9 +13,10 @@ ghost use Rattle.meaning.specs.Rules.{isReference, ruleFields};
 ghost use Rattle.meaning.specs.Select.{readsOwn};
 ghost use Rattle.meaning.specs.Day.{changeDays};
 ghost use Rattle.meaning.specs.Answer.{storing, lentAfter};
-ghost use Rattle.document.specs.Lent.{Tree, Periods, Checked};
+ghost use Rattle.columns.specs.Lent.{Tree, Periods};
+ghost use Rattle.columns.specs.Judgeable.{Judgeable};
 ghost use Rattle.marks.specs.Marks.{Marks};
-ghost use Rattle.lists.specs.Lending.{Fronts, readTurning, turningDays};
+ghost use Rattle.lists.specs.Lending.{Turnable};
 
 // The marks of the versions read by the rule that a reference refers to; those of any other rule again.
 fn read_referred(
@@ -27,7 +27,7 @@ fn read_referred(
     q: Rule,
     r: Rule,
 ) -> [u8; LIMIT]
-    requires { ⌜ (isReference r ≡ true → q .steps ≤ 8) × ((doc : Doc) × Tree doc (now kind) (now name) (now parent) × Checked doc) ⌝ }
+    requires { ⌜ (isReference r ≡ true → q .steps ≤ 8) × ((doc : Doc) × Tree doc (now kind) (now name) (now parent) × Judgeable doc) ⌝ }
     ensures { λ x. ⌜ ((doc : Doc) → Tree doc (now (kind .entry)) (now (name .entry)) (now (parent .entry)) → isReference r ≡ true → Marks (readsOwn doc q) (doc .size) x) ⌝ }
 {
     if r.kind != 3 {
@@ -48,7 +48,7 @@ fn changes_columns(
     r: Rule,
     out: &mut [u16],
 ) -> Listed
-    requires { ⌜ (ruleFields r ≡ true) × (isReference r ≡ true → ruleFields q ≡ true) × ((doc : Doc) × Tree doc (now kind) (now name) (now parent) × Periods doc (now begin) (now end) × Checked doc) ⌝ }
+    requires { ⌜ (ruleFields r ≡ true) × (isReference r ≡ true → ruleFields q ≡ true) × ((doc : Doc) × Tree doc (now kind) (now name) (now parent) × Periods doc (now begin) (now end) × Judgeable doc) ⌝ }
     ensures answer { λ x. ⌜ ((doc : Doc) → (p : Rule) → Tree doc (now (kind .entry)) (now (name .entry)) (now (parent .entry)) → Periods doc (now (begin .entry)) (now (end .entry)) → (isReference r ≡ true → p ≡ q) → x ≡ storing Accepted (changeDays doc p r) (now (out .entry))) ⌝ }
     ensures lent { λ x. ⌜ ((doc : Doc) → (p : Rule) → Tree doc (now (kind .entry)) (now (name .entry)) (now (parent .entry)) → Periods doc (now (begin .entry)) (now (end .entry)) → (isReference r ≡ true → p ≡ q) → now (out .exit) ≡ lentAfter x (changeDays doc p r) (now (out .entry))) ⌝ }
 {
@@ -60,7 +60,7 @@ fn changes_columns(
 }
 
 // The same over the first n entries of the columns.
-fn changes_front(
+pub fn changes_front(
     n: usize,
     kind: &[u8],
     name: &[u16],
@@ -71,7 +71,7 @@ fn changes_front(
     r: Rule,
     out: &mut [u16],
 ) -> Listed
-    requires { ⌜ (ruleFields r ≡ true) × (isReference r ≡ true → ruleFields q ≡ true) × Fronts n (now kind) (now name) (now parent) (now begin) (now end) ⌝ }
+    requires { ⌜ (ruleFields r ≡ true) × (isReference r ≡ true → ruleFields q ≡ true) × Turnable n (now kind) (now name) (now parent) (now begin) (now end) ⌝ }
     ensures answer { λ x. ⌜ ((doc : Doc) → (p : Rule) → Tree doc (take (n - 0) (now (kind .entry))) (take (n - 0) (now (name .entry))) (take (n - 0) (now (parent .entry))) → Periods doc (take (n - 0) (now (begin .entry))) (take (n - 0) (now (end .entry))) → (isReference r ≡ true → p ≡ q) → x ≡ storing Accepted (changeDays doc p r) (now (out .entry))) ⌝ }
     ensures lent { λ x. ⌜ ((doc : Doc) → (p : Rule) → Tree doc (take (n - 0) (now (kind .entry))) (take (n - 0) (now (name .entry))) (take (n - 0) (now (parent .entry))) → Periods doc (take (n - 0) (now (begin .entry))) (take (n - 0) (now (end .entry))) → (isReference r ≡ true → p ≡ q) → now (out .exit) ≡ lentAfter x (changeDays doc p r) (now (out .entry))) ⌝ }
 {
@@ -85,38 +85,4 @@ fn changes_front(
         r,
         out,
     )
-}
-
-// The change days of rule k of an image: 21 to 26, then 11 where there is no such rule or it is not sequenced, then 12.
-pub fn changes_in_table(
-    n: usize,
-    kind: &[u8],
-    name: &[u16],
-    parent: &[u16],
-    begin: &[u16],
-    end: &[u16],
-    rules: &[u8],
-    k: usize,
-    out: &mut [u16],
-) -> Listed
-    requires { ⌜ Fronts n (now kind) (now name) (now parent) (now begin) (now end) ⌝ }
-    ensures answer { λ x. ⌜ ((doc : Doc) → Tree doc (take (n - 0) (now (kind .entry))) (take (n - 0) (now (name .entry))) (take (n - 0) (now (parent .entry))) → Periods doc (take (n - 0) (now (begin .entry))) (take (n - 0) (now (end .entry))) → x ≡ storing (readTurning (now (rules .entry)) k) (turningDays doc (now (rules .entry)) k) (now (out .entry))) ⌝ }
-    ensures lent { λ x. ⌜ ((doc : Doc) → Tree doc (take (n - 0) (now (kind .entry))) (take (n - 0) (now (name .entry))) (take (n - 0) (now (parent .entry))) → Periods doc (take (n - 0) (now (begin .entry))) (take (n - 0) (now (end .entry))) → now (out .exit) ≡ lentAfter x (turningDays doc (now (rules .entry)) k) (now (out .entry))) ⌝ }
-{
-    let read = rules::read_rules(rules);
-    match read {
-        Reading::Refused(number, place) => {
-            return Listed::Refused(number, place);
-        }
-        Reading::Accepted => {}
-    }
-    if rules::count_rules(rules) <= k {
-        return Listed::Refused(11, 0);
-    }
-    let r = rules::rule_at(rules, k);
-    if r.windowed != 0 {
-        return Listed::Refused(11, 0);
-    }
-    let q = rules::referred_rule(rules, k);
-    changes_front(n, kind, name, parent, begin, end, q, r, out)
 }

@@ -21,6 +21,7 @@ use Rattle.meaning.proofs.Orders.{then-accepted}
 use Rattle.meaning.proofs.Says.{says}
 use Rattle.meaning.proofs.Sound.{Sound}
 use Rattle.meaning.proofs.Accepted.{accepted-sound}
+use Rattle.meaning.proofs.Slices.{present-alive}
 use Rattle.meaning.proofs.Over.{over}
 use Rattle.meaning.proofs.Changes.{verdict-changes}
 use Rattle.meaning.proofs.Hops.{marks, hopDays, days-by-hops}
@@ -56,7 +57,7 @@ pub judged-quick : (doc : Doc) → Sound doc → (q r : Rule) → judged doc q r
 unfolding judged quickJudged
 judged-quick doc s q r =
     ap (λ v. cond (isSequenced r) v (inWindows doc q r))
-    (verdict-changes doc q r s ∙ ap (λ ds. over (offender doc q r) ds 0) (days-quick doc q r))
+    (verdict-changes doc q r (present-alive doc s) ∙ ap (λ ds. over (offender doc q r) ds 0) (days-quick doc q r))
 
 -- what is found matters only where the reading accepts
 after-same : (x : Reading) (a b : Verdict) → (x ≡ Accepted → a ≡ b) → verdictAfter x a ≡ verdictAfter x b

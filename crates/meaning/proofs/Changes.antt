@@ -15,7 +15,7 @@ use Rattle.meaning.specs.Document.{Doc}
 use Rattle.meaning.specs.Select.{reads}
 use Rattle.meaning.specs.Day.{offender, turns, isChange, changeDays, firstFailing, onDays}
 use Rattle.meaning.proofs.Basics.{went, or-cases, or-l, or-r, and-l, and-r, both}
-use Rattle.meaning.proofs.Sound.{Sound}
+use Rattle.meaning.proofs.Slices.{PresentAlive}
 use Rattle.meaning.proofs.Walks.{any-true, any-some}
 use Rattle.meaning.proofs.Picks.{Ascending, In, pick-ascends, length-pick, in-picked, picked-in, count-or, count-one, turn-days}
 use Rattle.meaning.proofs.Selects.{version-here, reads-version}
@@ -121,10 +121,10 @@ module _ (doc : Doc) (q r : Rule) where
         turn-days (reads doc q r) (doc .begin) (doc .end) (doc .size) 0 (r .begin) (days r),
       )
 
-  -- in a sound document the verdict over the change days is the verdict over every day
-  pub verdict-changes : Sound doc → onDays doc q r ≡ over (offender doc q r) (changeDays doc q r) 0
+  -- where present is alive, the verdict over the change days is the verdict over every day
+  pub verdict-changes : PresentAlive doc → onDays doc q r ≡ over (offender doc q r) (changeDays doc q r) 0
   unfolding onDays changeDays firstFailing said
-  verdict-changes s =
+  verdict-changes p =
       simp add-zero at (sym (over-picked (offender doc q r) (isChange doc q r) (days r) (r .begin) 0
-      (λ d h l e. same-as-before doc s q r d (omega arith) e)
+      (λ d h l e. same-as-before doc p q r d (omega arith) e)
       (λ h. inl (why-change (r .begin) (inl refl)))))

@@ -13,7 +13,7 @@ use Rattle.meaning.specs.Walk.{first, found, place}
 use Rattle.meaning.specs.Document.{Doc}
 use Rattle.meaning.specs.Day.{presentOn, offends, offender, isChange, changeDays, firstFailing, onDays}
 use Rattle.meaning.proofs.Basics.{went, clear, le-or-lt}
-use Rattle.meaning.proofs.Sound.{Sound}
+use Rattle.meaning.proofs.Slices.{PresentAlive}
 use Rattle.meaning.proofs.Walks.{first-found, first-nothing, first-none}
 use Rattle.meaning.proofs.Quiet.{same-as-before}
 use Rattle.meaning.proofs.Over.{nowhere}
@@ -107,7 +107,7 @@ module _ (doc : Doc) (q r : Rule) where
       on-days
 
   -- a day past the first with an offender, and none the day before, is a change day
-  later-change : Sound doc → (c v : ℕ) → FirstFault doc q r (suc c) v → r .begin ≤ c → isChange doc q r (suc c) ≡ true
+  later-change : PresentAlive doc → (c v : ℕ) → FirstFault doc q r (suc c) v → r .begin ≤ c → isChange doc q r (suc c) ≡ true
   unfolding offender
   later-change s c v f h =
       ⊎-elim
@@ -118,12 +118,12 @@ module _ (doc : Doc) (q r : Rule) where
       absurd (clear (f .offence) (none-on (suc c) (sym same ∙ quiet-day) v (f .here))))
       (went (isChange doc q r (suc c)))
 
-  first-change : Sound doc → (d v : ℕ) → FirstFault doc q r d v → isChange doc q r d ≡ true
+  first-change : PresentAlive doc → (d v : ℕ) → FirstFault doc q r d v → isChange doc q r d ≡ true
   first-change s zero v f = why-change doc q r 0 (inl (omega (arith, f .from)))
   first-change s (suc c) v f = ⊎-elim (λ h. later-change s c v f h) (λ h. why-change doc q r (suc c) (inl (omega (arith, f .from)))) (le-or-lt (r .begin) c)
 
   -- in a sound document the first failing day is a change day, and the count is its place among them
-  pub fails-place : Sound doc → (d v n : ℕ) → onDays doc q r ≡ Fails d v n → At-place (changeDays doc q r) d n
+  pub fails-place : PresentAlive doc → (d v n : ℕ) → onDays doc q r ≡ Fails d v n → At-place (changeDays doc q r) d n
   fails-place s d v n e =
       let w = fails-first d v n e in
       let f = w .0 in

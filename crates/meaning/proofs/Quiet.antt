@@ -12,8 +12,7 @@ use Rattle.meaning.specs.Document.{Doc, isVersion}
 use Rattle.meaning.specs.Select.{reads}
 use Rattle.meaning.specs.Day.{alive, presentOn, offends, offender, turns, isChange}
 use Rattle.meaning.proofs.Basics.{tests-same, le-or-lt, or-l, or-r, both, clear}
-use Rattle.meaning.proofs.Sound.{Sound}
-use Rattle.meaning.proofs.Slices.{present-alive}
+use Rattle.meaning.proofs.Slices.{PresentAlive}
 use Rattle.meaning.proofs.Walks.{any-some}
 use Rattle.meaning.proofs.Selects.{reads-own, reads-referred, reads-version, version-here}
 use Rattle.meaning.proofs.Agree.{Agree, offends-agree}
@@ -35,11 +34,11 @@ module _ (doc : Doc) (c d i : ℕ) (h : c ≤ d) (b : c < doc .begin i → doc .
       (λ t. lt-ltb d (doc .end i) (⊎-elim (λ k. absurd (e (ltb-true c (doc .end i) t) k)) (λ k. k) (le-or-lt (doc .end i) d)))
       (λ t. lt-ltb c (doc .end i) (omega (arith, ltb-true d (doc .end i) t))))
 
-module _ (doc : Doc) (s : Sound doc) (q r : Rule) where
+module _ (doc : Doc) (p : PresentAlive doc) (q r : Rule) where
   module _ (c d : ℕ) (h : c ≤ d) (w : Quiet doc q r c d) where
     -- what the rule reads is present on c as on d
     read-same : (i : ℕ) → reads doc q r i ≡ true → presentOn doc c i ≡ presentOn doc d i
-    read-same i e = present-alive doc s c i ∙ alive-same doc c d i h (w .begins i e) (w .ends i e) ∙ sym (present-alive doc s d i)
+    read-same i e = p c i ∙ alive-same doc c d i h (w .begins i e) (w .ends i e) ∙ sym (p d i)
 
     -- so the same records offend
     pub offends-same : offends doc (presentOn doc c) q r ≡ offends doc (presentOn doc d) q r

@@ -99,11 +99,6 @@ module _ (doc : Doc) (s : Sound doc) (d : ℕ) where
       tests-same (reached doc d deepest v) (alive doc d v) (reached-alive deepest v)
       (λ e. alive-reached deepest v (depth-most doc (s .records) v (stands doc (s .records) v (lives doc d v e .kind) .here)) e)
 
-  -- the slice is the versions alive, ascending
-  pub slice-alive : slice doc d ≡ pick (alive doc d) 0 (doc .size)
-  unfolding slice
-  slice-alive = pick-same (presentOn doc d) (alive doc d) 0 (doc .size) (λ v a b. present-alive v)
-
   -- an item has at most one version alive
   pub one-alive : (i u v : ℕ) → Version doc i u → Version doc i v → alive doc d u ≡ true → alive doc d v ≡ true → u ≡ v
   one-alive i u v x y a b =
@@ -113,5 +108,14 @@ module _ (doc : Doc) (s : Sound doc) (d : ℕ) where
       let not-higher : v < u → ⊥ = λ l. omega (arith, s .placed .order i v u l y x) in
       omega arith
 
+-- a document in which a version is present exactly while it is alive, as in a sound one
+abbrev pub PresentAlive : Doc → Type 0
+PresentAlive doc = (d v : ℕ) → presentOn doc d v ≡ alive doc d v
+
+-- its slice is the versions alive, ascending
+pub slice-alive : (doc : Doc) → PresentAlive doc → (d : ℕ) → slice doc d ≡ pick (alive doc d) 0 (doc .size)
+unfolding slice
+slice-alive doc p d = pick-same (presentOn doc d) (alive doc d) 0 (doc .size) (λ v a b. p d v)
+
 pub accepted-slice : (doc : Doc) → accept doc ≡ Accepted → (d : ℕ) → slice doc d ≡ pick (alive doc d) 0 (doc .size)
-accepted-slice doc e = slice-alive doc (accepted-sound doc e)
+accepted-slice doc e = slice-alive doc (present-alive doc (accepted-sound doc e))

@@ -86,7 +86,7 @@ slice-alive = Slices.accepted-slice
 -- 3. Between change days nothing changes, whatever the kind: where no version read begins or ends in (c, d], the same records offend.
 pub nothing-changes : (doc : Doc) → Sound doc → (q r : Rule) (c d : ℕ) → c ≤ d → Quiet doc q r c d
     → (v : ℕ) → offends doc (presentOn doc c) q r v ≡ offends doc (presentOn doc d) q r v
-nothing-changes doc s q r c d h w v = ap (λ (f : ℕ → Bool). f v) (Quiet′.offends-same doc s q r c d h w)
+nothing-changes doc s q r c d h w v = ap (λ (f : ℕ → Bool). f v) (Quiet′.offends-same doc (Slices.present-alive doc s) q r c d h w)
 
 -- 4. Demand 3, for an accepted document and a sequenced rule r (q the rule that it refers to).
 pub record EnoughDays (doc : Doc) (q r : Rule) : Type 0 where
@@ -105,12 +105,12 @@ pub record EnoughDays (doc : Doc) (q r : Rule) : Type 0 where
 
 pub enough-days : (doc : Doc) → accept doc ≡ Accepted → (q r : Rule) → EnoughDays doc q r
 enough-days doc e q r =
-    let s = Accept.accepted-sound doc e in
+    let p = Slices.present-alive doc (Accept.accepted-sound doc e) in
     record {
       ascending = Changes.days-ascend doc q r;
       membership = λ d. (Changes.listed-change doc q r d, Changes.change-listed doc q r d);
-      same-verdict = Changes.verdict-changes doc q r s;
-      first-place = Faults.fails-place doc q r s;
+      same-verdict = Changes.verdict-changes doc q r p;
+      first-place = Faults.fails-place doc q r p;
       whole-count = λ n h. Faults.holds-none doc q r n h .1;
       few = Changes.days-few doc q r;
     }

@@ -16,6 +16,10 @@ nodeForm = record { kind = 1; size = 20; each = 25; most = 40; base = 0 }
 abbrev pub ruleForm : Form
 ruleForm = record { kind = 2; size = 50; each = 10; most = 10; base = 20 }
 
+-- the most records of a document: full blocks, as many as an image can have
+abbrev pub limit : ℕ
+limit = nodeForm .each * nodeForm .most
+
 -- the old check times 33 plus the byte, modulo 2^32
 abbrev pub checkStep : ℕ → ℕ → ℕ
 checkStep c x = (c * 33 + x) % 2 ^ 32

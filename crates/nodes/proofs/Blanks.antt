@@ -10,11 +10,10 @@ use Rattle.meaning.specs.declared.Reading.{Reading}
 use Rattle.meaning.specs.declared.Reading.the-variants.{Accepted, Refused}
 use Rattle.meaning.specs.Order.{inOrder}
 use Rattle.meaning.specs.Bytes.{byte, two, four, signed}
-use Rattle.meaning.specs.Block.{nodeForm, imageTests, records, recordOf}
+use Rattle.meaning.specs.Block.{nodeForm, imageTests, records, recordOf, limit}
 use Rattle.meaning.specs.Document.{columns}
 use Rattle.meaning.specs.Nodes.{nodeIn, nodesOf, accept, readNodes}
-use Rattle.document.specs.Columns.{limit}
-use Rattle.nodes.specs.declared.Loaded.{Loaded}
+use Rattle.columns.specs.declared.Loaded.{Loaded}
 use Rattle.nodes.specs.Filled.{filled, Front}
 use Rattle.nodes.specs.Loading.{loaded, tellLoaded}
 use Rattle.nodes.specs.Unpacking.{Unpacks, Blank, together, recordsAfter, recordsIn, blank, columnOf}

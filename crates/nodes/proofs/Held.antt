@@ -1,5 +1,5 @@
 -- What columns with room for the largest document hold of an image that was read into them: its own refusal beside them, or its document in their first entries.
-use mathlib.Core.Path.{_≡_, refl, sym, ap, _∙_}
+use mathlib.Core.Path.{_≡_, refl, sym, _∙_}
 use mathlib.Core.List.{List, map}
 use Prim.Native.Nat.{ℕ, _-_, _≤_}
 use native.Mathlib.Nat.{sub-zero}
@@ -11,18 +11,19 @@ use Rattle.meaning.specs.declared.Node.{Node}
 use Rattle.meaning.specs.declared.Reading.{Reading}
 use Rattle.meaning.specs.declared.Reading.the-variants.{Accepted, Refused}
 use Rattle.meaning.specs.Order.{inOrder}
-use Rattle.meaning.specs.Block.{nodeForm, imageTests, records, recordOf}
+use Rattle.meaning.specs.Block.{nodeForm, imageTests, records, recordOf, limit}
 use Rattle.meaning.specs.Document.{ofNodes}
 use Rattle.meaning.specs.Nodes.{nodeIn, nodesOf, docOf, accept, readNodes}
 use Rattle.meaning.proofs.Orders.{then-accepted}
 use Rattle.meaning.proofs.Walks.{length-listed}
 use Rattle.block.specs.Fair.{Fair, Read}
 use Rattle.block.proofs.Places.{count-all}
-use Rattle.document.specs.Columns.{limit}
-use Rattle.document.specs.Lent.{Lends, Checked, Whole}
-use Rattle.nodes.specs.declared.Loaded.{Loaded}
-use Rattle.nodes.specs.declared.Loaded.the-variants.{Nodes, Refused as Unloaded}
-use Rattle.nodes.specs.declared.Columns.{Columns}
+use Rattle.columns.specs.Lent.{Lends, Whole}
+use Rattle.columns.specs.Judgeable.{Judgeable}
+use Rattle.columns.proofs.Judging.{judgeable}
+use Rattle.columns.specs.declared.Loaded.{Loaded}
+use Rattle.columns.specs.declared.Loaded.the-variants.{Nodes, Refused as Unloaded}
+use Rattle.columns.specs.declared.Columns.{Columns}
 use Rattle.nodes.specs.Loading.{loaded, tellLoaded}
 use Rattle.nodes.specs.Unpacking.{Unpacks, blank, columnOf}
 use Rattle.nodes.proofs.Unique.{loaded-unique}
@@ -31,6 +32,25 @@ use Rattle.nodes.proofs.Blanks.{records-good}
 
 fair : Fair nodeForm
 fair = record { some = omega arith; room = omega arith; each-small = omega arith; most-small = omega arith; base-small = omega arith }
+
+-- an answer is a reading's refusal, or how many records were read
+module _ (y : Reading) {m : ℕ} {x : Loaded} (ex : tellLoaded x ≡ tellLoaded (loaded y m)) where
+  same : x ≡ loaded y m
+  same = loaded-unique x (loaded y m) ex
+
+  pub told-refused : {k p : ℕ} → x ≡ Unloaded k p → y ≡ Refused k p
+  told-refused {k} {p} r = go y refl
+    where
+      go : (z : Reading) → y ≡ z → y ≡ Refused k p
+      go Accepted e = let w : Unloaded k p ≡ Nodes m = sym r ∙ same ∙ rw e in let wrong : _≡_ {A = ℕ} 0 1 = cc in absurd (omega arith)
+      go (Refused l q) e = let w : Unloaded k p ≡ Unloaded l q = sym r ∙ same ∙ rw e in e ∙ cc
+
+  pub told-nodes : {n : ℕ} → x ≡ Nodes n → (y ≡ Accepted) × (n ≡ m)
+  told-nodes {n} r = go y refl
+    where
+      go : (z : Reading) → y ≡ z → (y ≡ Accepted) × (n ≡ m)
+      go Accepted e = let w : Nodes n ≡ Nodes m = sym r ∙ same ∙ rw e in (e, cc)
+      go (Refused l q) e = let w : Nodes n ≡ Unloaded l q = sym r ∙ same ∙ rw e in let wrong : _≡_ {A = ℕ} 0 1 = cc in absurd (omega arith)
 
 -- an accepted image, and how many records it has
 pub record Held (image : List ℕ) (n : ℕ) : Type 0 where
@@ -46,27 +66,13 @@ module _ (image : List ℕ) where
       let all = count-all read refl refl in
       omega (arith, length-listed (λ i. nodeIn (recordOf nodeForm image i)) 0 (records nodeForm image), all .count, all .few)
 
-  -- an answer is the image's refusal, or how many records it has
+  -- the image's refusal, or how many records it has
   module _ {x : Loaded} (ex : tellLoaded x ≡ tellLoaded (loaded (readNodes image) (length (nodesOf image)))) where
-    same : x ≡ loaded (readNodes image) (length (nodesOf image))
-    same = loaded-unique x (loaded (readNodes image) (length (nodesOf image))) ex
-
     pub refused-image : {k p : ℕ} → x ≡ Unloaded k p → readNodes image ≡ Refused k p
-    refused-image {k} {p} r = go (readNodes image) refl
-      where
-        go : (y : Reading) → readNodes image ≡ y → readNodes image ≡ Refused k p
-        go Accepted e = let z : Unloaded k p ≡ Nodes (length (nodesOf image)) = sym r ∙ same ∙ rw e in let wrong : _≡_ {A = ℕ} 0 1 = cc in absurd (omega arith)
-        go (Refused l q) e = let z : Unloaded k p ≡ Unloaded l q = sym r ∙ same ∙ rw e in e ∙ cc
+    refused-image r = told-refused (readNodes image) ex r
 
     pub held-image : {n : ℕ} → x ≡ Nodes n → Held image n
-    held-image {n} r = go (readNodes image) refl
-      where
-        go : (y : Reading) → readNodes image ≡ y → Held image n
-        go Accepted e =
-            let z : Nodes n ≡ Nodes (length (nodesOf image)) = sym r ∙ same ∙ rw e in
-            let c : n ≡ length (nodesOf image) = cc in
-            record { accepted = e; count = c; few = omega (arith, nodes-few e) }
-        go (Refused l q) e = let z : Nodes n ≡ Unloaded l q = sym r ∙ same ∙ rw e in let wrong : _≡_ {A = ℕ} 0 1 = cc in absurd (omega arith)
+    held-image r = let t = told-nodes (readNodes image) ex r in record { accepted = t .0; count = t .1; few = omega (arith, t .1, nodes-few (t .0)) }
 
   -- accepted: the columns hold its document
   module _ {c : Columns} (u : Unpacks image c) {n : ℕ} (r : c .loaded ≡ Nodes n) where
@@ -90,13 +96,10 @@ module _ (image : List ℕ) where
     unfolding docOf ofNodes
     size-held = length-map (nodesOf image) (λ (x : Node). x .kind) ∙ sym (held .count)
 
-    checked : Checked (docOf image)
+    can-be-judged : Judgeable (docOf image)
     unfolding readNodes
-    checked =
-        record {
-          accepted = then-accepted (inOrder (imageTests nodeForm image)) (accept (docOf image)) (held .accepted) .1;
-          few = omega (arith, size-held, held .few);
-        }
+    can-be-judged =
+        judgeable (docOf image) (omega (arith, size-held, held .few)) (then-accepted (inOrder (imageTests nodeForm image)) (accept (docOf image)) (held .accepted) .1)
 
     pub whole-held : Whole (docOf image) (take (n - 0) (c .kind)) (take (n - 0) (c .vkind)) (take (n - 0) (c .name)) (take (n - 0) (c .parent)) (take (n - 0) (c .begin)) (take (n - 0) (c .end)) (take (n - 0) (c .value)) (take (n - 0) (c .item))
     unfolding docOf ofNodes
@@ -117,7 +120,7 @@ module _ (image : List ℕ) where
                 end = lends (λ (m : Node). m .end) 0 (c .end) (u .end);
               };
           numbers = record { kind = kind; parent = parent; item = lends (λ (m : Node). m .item) 0 (c .item) (u .item) };
-          checked = checked;
+          judgeable = can-be-judged;
         }
 
 -- a column whose first n entries are a document's has n entries

@@ -17,7 +17,7 @@ use Rattle.meaning.proofs.Orders.{then-accepted}
 use Rattle.meaning.proofs.Unique.{reading-unique}
 use Rattle.meaning.proofs.Says.{says}
 use Rattle.meaning.proofs.Walks.{length-listed}
-use Rattle.nodes.specs.declared.Loaded.the-variants.{Nodes, Refused as Unloaded}
+use Rattle.columns.specs.declared.Loaded.the-variants.{Nodes, Refused as Unloaded}
 use Rattle.nodes.specs.Filled.{filled, Roomy}
 use Rattle.nodes.specs.Loading.{roomy, tellLoaded, loading}
 use Rattle.nodes.proofs.Unpacked.{field-listed}

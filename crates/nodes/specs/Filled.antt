@@ -4,7 +4,7 @@ use mathlib.Core.List.{List, _++_}
 use Prim.Native.Nat.{ℕ, _+_, _*_, _≤_}
 use lib.ListN.{drop}
 use Rattle.meaning.specs.Walk.{listed}
-use Rattle.meaning.specs.Block.{blocks}
+use Rattle.meaning.specs.Block.{limit, blocks}
 
 -- n entries by f, and the rest as it was
 unfoldable pub filled : {A : Type 0} → (ℕ → A) → ℕ → List A → List A
@@ -34,7 +34,7 @@ pub record Roomy (image : List ℕ) (n a b c d e f g h : ℕ) : Type 0 where
 
 -- nine columns have at least n entries, and n is no more than a document can have
 pub record Front (n a b c d e f g h i : ℕ) : Type 0 where
-  pub few : n ≤ 1000
+  pub few : n ≤ limit
   pub kind : n ≤ a
   pub vkind : n ≤ b
   pub name : n ≤ c

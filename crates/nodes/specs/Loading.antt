@@ -10,8 +10,8 @@ use Rattle.meaning.specs.declared.Reading.the-variants.{Accepted, Refused}
 use Rattle.meaning.specs.Order.{need, andThen}
 use Rattle.meaning.specs.Nodes.{nodesOf, readNodes}
 use Rattle.meaning.specs.Answer.{Told}
-use Rattle.nodes.specs.declared.Loaded.{Loaded}
-use Rattle.nodes.specs.declared.Loaded.the-variants.{Nodes, Refused as Unloaded}
+use Rattle.columns.specs.declared.Loaded.{Loaded}
+use Rattle.columns.specs.declared.Loaded.the-variants.{Nodes, Refused as Unloaded}
 
 -- each of the eight columns has room for n entries
 abbrev pub roomy : ℕ → ℕ → ℕ → ℕ → ℕ → ℕ → ℕ → ℕ → ℕ → Bool

@@ -8,11 +8,10 @@ use Rattle.meaning.specs.declared.Node.{Node}
 use Rattle.meaning.specs.declared.Reading.{Reading}
 use Rattle.meaning.specs.declared.Reading.the-variants.{Accepted, Refused}
 use Rattle.meaning.specs.Order.{inOrder}
-use Rattle.meaning.specs.Block.{nodeForm, imageTests}
+use Rattle.meaning.specs.Block.{nodeForm, imageTests, limit}
 use Rattle.meaning.specs.Nodes.{nodesOf, readNodes}
-use Rattle.document.specs.Columns.{limit}
-use Rattle.nodes.specs.declared.Loaded.{Loaded}
-use Rattle.nodes.specs.declared.Columns.{Columns}
+use Rattle.columns.specs.declared.Loaded.{Loaded}
+use Rattle.columns.specs.declared.Columns.{Columns}
 use Rattle.nodes.specs.Loading.{loaded, tellLoaded}
 
 -- what came of reading, and eight columns

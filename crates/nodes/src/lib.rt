@@ -1,4 +1,7 @@
 // A node image unpacked into columns: refusals 1 to 10, and the decoded document where it is accepted.
+use columns::Columns;
+use columns::Loaded;
+use columns::LIMIT;
 use meaning::Reading;
 ghost use mathlib.Core.Path.{_≡_};
 ghost use lib.ListN.{length, take};
@@ -11,15 +14,8 @@ ghost use Rattle.meaning.specs.Answer.{tellReading};
 ghost use Rattle.nodes.specs.Filled.{filled, Roomy, Front};
 ghost use Rattle.nodes.specs.Loading.{roomy, loaded, tellLoaded, loading, unpacked};
 ghost use Rattle.nodes.specs.Unpacking.{Unpacks, Blank, together};
-use document::LIMIT;
 
 pub mod fill; // fill.rt: one column, from the records of an image
-
-// What comes of unpacking: how many records there are, or refused with a number and a place.
-pub enum Loaded {
-    Nodes(usize),
-    Refused(usize, usize),
-}
 
 // The fields of n records, each in its column. One look at each record for each column.
 fn unpack(
@@ -98,20 +94,6 @@ fn accept_front(
         &item[0..n],
         &spare[0..n],
     )
-}
-
-// What came of reading an image, and columns with room for the largest document: where its blocks are good, their first entries hold its
-// records, and all others are 0.
-pub struct Columns {
-    pub loaded: Loaded,
-    pub kind: [u8; LIMIT],
-    pub vkind: [u8; LIMIT],
-    pub name: [u16; LIMIT],
-    pub parent: [u16; LIMIT],
-    pub begin: [u16; LIMIT],
-    pub end: [u16; LIMIT],
-    pub value: [i32; LIMIT],
-    pub item: [u32; LIMIT],
 }
 
 // The answer on n records that were read.

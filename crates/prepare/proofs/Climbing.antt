@@ -11,18 +11,13 @@ use Rattle.meaning.specs.declared.Rule.{Rule}
 use Rattle.meaning.specs.Document.{Doc, above}
 use Rattle.meaning.specs.Select.{nameFits, pathTo, selected}
 use Rattle.meaning.proofs.Says.{says}
-use Rattle.meaning.proofs.Slices.{Stands, stands}
-use Rattle.meaning.proofs.Accepted.{accepted-sound}
-use Rattle.document.specs.Lent.{Tree, Checked}
+use Rattle.columns.specs.Lent.{Tree}
+use Rattle.columns.specs.Judgeable.{Seated, Judgeable}
 use Rattle.prepare.specs.Standing.{Upward, Standing}
 
--- a version of an accepted document stands past its item
-checked-stands : (doc : Doc) → Checked doc → (v : ℕ) → doc .kind v ≡ 2 → Stands doc v
-checked-stands doc c = stands doc (accepted-sound doc (c .accepted) .records)
-
 module _ (names parents : List ℕ) (v : ℕ) (s : Standing names parents v) where
-  place : Stands (s .doc) v
-  place = checked-stands (s .doc) (s .checked) v (s .version)
+  place : Seated (s .doc) v
+  place = s .judgeable .seated v (s .version)
 
   pub standing-here : v < length parents
   standing-here = omega (arith, s .upward .parent .size, place .here)
@@ -42,7 +37,7 @@ module _ (names parents : List ℕ) (v : ℕ) (s : Standing names parents v) whe
     standing-up z a q =
         let up : a ≡ above (s .doc) v = q ∙ s .upward .parent .at p ∙ ap (s .doc .parent) item in
         let l : 0 < s .doc .parent v = omega (arith, item) in
-        record { doc = s .doc; upward = s .upward; checked = s .checked; version = ap (s .doc .kind) up ∙ place .over l .1 }
+        record { doc = s .doc; upward = s .upward; judgeable = s .judgeable; version = ap (s .doc .kind) up ∙ place .over l .version }
 
 module _ (doc : Doc) (names parents : List ℕ) (u : Upward doc names parents) (r : Rule) (v : ℕ) where
   -- one step of the climb, as the columns have it
@@ -76,9 +71,9 @@ module _ (kinds names parents : List ℕ) where
   pub tree-upward : (doc : Doc) → Tree doc kinds names parents → Upward doc names parents
   tree-upward doc t = record { name = t .name; parent = t .parent }
 
-  pub tree-standing : ((doc : Doc) × Tree doc kinds names parents × Checked doc) → (v : ℕ) → getD kinds v 0 ≡ 2 → Standing names parents v
+  pub tree-standing : ((doc : Doc) × Tree doc kinds names parents × Judgeable doc) → (v : ℕ) → getD kinds v 0 ≡ 2 → Standing names parents v
   tree-standing g v e =
-      record { doc = g .0; upward = tree-upward (g .0) (g .1); checked = g .2; version = sym (g .1 .kind .at v) ∙ e }
+      record { doc = g .0; upward = tree-upward (g .0) (g .1); judgeable = g .2; version = sym (g .1 .kind .at v) ∙ e }
 
   module _ (doc : Doc) (t : Tree doc kinds names parents) (r : Rule) (v : ℕ) where
     pub no-version : (getD kinds v 0 ≡ 2 → ⊥) → false ≡ selected doc r v

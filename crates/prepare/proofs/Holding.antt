@@ -10,14 +10,15 @@ use borrow.Author.Tests.{eq-eqb, ne-eqb}
 use Rattle.meaning.specs.declared.Rule.{Rule}
 use Rattle.meaning.specs.Document.{Doc, above}
 use Rattle.meaning.specs.Select.{fieldOf}
-use Rattle.document.specs.Columns.{limit}
-use Rattle.document.specs.Lent.{Tree, Checked}
+use Rattle.meaning.specs.Block.{limit}
+use Rattle.columns.specs.Lent.{Tree}
+use Rattle.columns.specs.Judgeable.{Judgeable}
 use Rattle.prepare.specs.Holders.{Holders}
 use Rattle.prepare.proofs.Filling.{Filled}
 use Rattle.prepare.proofs.Climbing.{tree-standing, standing-item}
 
 -- the columns have at most as many records as a document
-pub tree-few : (kinds names parents : List ℕ) → ((doc : Doc) × Tree doc kinds names parents × Checked doc) → length kinds ≤ limit
+pub tree-few : (kinds names parents : List ℕ) → ((doc : Doc) × Tree doc kinds names parents × Judgeable doc) → length kinds ≤ limit
 tree-few kinds names parents g = omega (arith, g .1 .kind .size, g .2 .few)
 
 -- x is the holder of f
@@ -29,7 +30,7 @@ filled-holders doc r i holders s h l = record { room = l; held = λ v f a b. s .
 
 module _ (kinds names parents : List ℕ) where
   -- the item of a version has a name and a parent
-  pub item-here : ((doc : Doc) × Tree doc kinds names parents × Checked doc) → (f p : ℕ) → getD kinds f 0 ≡ 2 → p ≡ getD parents f 0 → (p < length names) × (p < length parents)
+  pub item-here : ((doc : Doc) × Tree doc kinds names parents × Judgeable doc) → (f p : ℕ) → getD kinds f 0 ≡ 2 → p ≡ getD parents f 0 → (p < length names) × (p < length parents)
   item-here g f p k = standing-item names parents f (tree-standing kinds names parents g f k) p
 
   module _ (doc : Doc) (r : Rule) (t : Tree doc kinds names parents) (few : length kinds ≤ limit) (field : ℕ) (w : r .field ≡ field) (f : ℕ) where

@@ -13,9 +13,9 @@ use Rattle.meaning.specs.Select.{selected, fieldOf}
 use Rattle.meaning.proofs.Basics.{clear, tests-same, never, and-r, both}
 use Rattle.meaning.proofs.Says.{says}
 use Rattle.meaning.proofs.Selects.{field-version}
-use Rattle.document.specs.Columns.{limit}
-use Rattle.document.specs.Chains.{pastLast, keyed, Chained}
-use Rattle.document.specs.Lent.{Lends}
+use Rattle.meaning.specs.Block.{limit}
+use Rattle.columns.specs.Chains.{pastLast, keyed, Chained}
+use Rattle.columns.specs.Lent.{Lends}
 use Rattle.marks.specs.Marks.{Marks}
 use Rattle.prepare.specs.Holders.{Holders, Skips}
 use Rattle.prepare.specs.Rows.{wants, inRow, Rows}

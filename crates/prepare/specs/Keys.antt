@@ -8,7 +8,7 @@ use lib.ListN.{length, getD}
 use Rattle.meaning.specs.declared.Rule.{Rule}
 use Rattle.meaning.specs.Document.{Doc}
 use Rattle.meaning.specs.Select.{selected}
-use Rattle.document.specs.Chains.{pastLast}
+use Rattle.columns.specs.Chains.{pastLast}
 use Rattle.prepare.specs.Rows.{inRow}
 
 -- entry f is v exactly where f is in the row of v; a number from the document's size on stands for no row

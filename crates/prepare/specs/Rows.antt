@@ -8,7 +8,7 @@ use Rattle.meaning.specs.declared.Rule.{Rule}
 use Rattle.meaning.specs.Document.{Doc}
 use Rattle.meaning.specs.Rules.{isSequenced}
 use Rattle.meaning.specs.Select.{selected, fieldOf, valued, isNumber, within}
-use Rattle.document.specs.Chains.{pastLast}
+use Rattle.columns.specs.Chains.{pastLast}
 use Rattle.prepare.specs.Holders.{Skips}
 
 -- which field versions matter on a day to a rule of kind k: all to a cardinality, those with a wrong value to a datatype, the valued ones to the others

@@ -3,7 +3,8 @@ use mathlib.Core.Path.{_≡_}
 use mathlib.Core.List.{List}
 use Prim.Native.Nat.{ℕ}
 use Rattle.meaning.specs.Document.{Doc}
-use Rattle.document.specs.Lent.{Lends, Checked}
+use Rattle.columns.specs.Lent.{Lends}
+use Rattle.columns.specs.Judgeable.{Judgeable}
 
 -- names and parents alone: what a climb reads
 pub record Upward (doc : Doc) (names parents : List ℕ) : Type 0 where
@@ -14,5 +15,5 @@ pub record Upward (doc : Doc) (names parents : List ℕ) : Type 0 where
 pub record Standing (names parents : List ℕ) (v : ℕ) : Type 0 where
   pub doc : Doc
   pub upward : Upward doc names parents
-  pub checked : Checked doc
+  pub judgeable : Judgeable doc
   pub version : doc .kind v ≡ 2

@@ -1,5 +1,5 @@
 // The version to which each field version belongs.
-use document::LIMIT;
+use columns::LIMIT;
 use meaning::Rule;
 use numbers::index;
 ghost use mathlib.Core.Path.{_≡_};
@@ -9,7 +9,8 @@ ghost use lib.ListN.{length};
 ghost use Rattle.meaning.specs.Document.{Doc};
 ghost use Rattle.meaning.specs.declared.Rule.{Rule};
 ghost use Rattle.meaning.specs.Select.{fieldOf};
-ghost use Rattle.document.specs.Lent.{Tree, Checked};
+ghost use Rattle.columns.specs.Lent.{Tree};
+ghost use Rattle.columns.specs.Judgeable.{Judgeable};
 ghost use Rattle.prepare.specs.Holders.{Holders};
 
 // A number that is no record's.
@@ -18,7 +19,7 @@ const NONE: u16 = 65535;
 // The version of which f is a field version, or a number that is no record's: f itself for field 0, else the record above
 // a version of an item of that name. Cost: a look at f and at its item.
 fn holder(kind: &[u8], name: &[u16], parent: &[u16], field: u16, f: usize) -> u16
-    requires { ⌜ (f < length (now kind)) × ((doc : Doc) × Tree doc (now kind) (now name) (now parent) × Checked doc) ⌝ }
+    requires { ⌜ (f < length (now kind)) × ((doc : Doc) × Tree doc (now kind) (now name) (now parent) × Judgeable doc) ⌝ }
     ensures { λ r. ⌜ ((doc : Doc) (rule : Rule) → Tree doc (now (kind .entry)) (now (name .entry)) (now (parent .entry)) → rule .field ≡ field → (v : ℕ) → v < doc .size → eqb r v ≡ fieldOf doc rule v f) ⌝ }
 {
     if field == 0 {
@@ -36,7 +37,7 @@ fn holder(kind: &[u8], name: &[u16], parent: &[u16], field: u16, f: usize) -> u1
 
 // The holder of each record. Cost: one pass over the records.
 pub fn holders(kind: &[u8], name: &[u16], parent: &[u16], rule: Rule) -> [u16; LIMIT]
-    requires { ⌜ ((doc : Doc) × Tree doc (now kind) (now name) (now parent) × Checked doc) ⌝ }
+    requires { ⌜ ((doc : Doc) × Tree doc (now kind) (now name) (now parent) × Judgeable doc) ⌝ }
     ensures { λ r. ⌜ ((doc : Doc) → Tree doc (now (kind .entry)) (now (name .entry)) (now (parent .entry)) → Holders doc rule r) ⌝ }
 {
     let mut out = [0u16; LIMIT];

@@ -1,5 +1,5 @@
 // A rule prepared over the columns of a document: what it selects, which versions it reads, and its rows.
-use document::LIMIT;
+use columns::LIMIT;
 use meaning::Rule;
 ghost use mathlib.Core.Path.{_≡_};
 ghost use mathlib.Core.Bool.{true};
@@ -8,7 +8,8 @@ ghost use Rattle.meaning.specs.declared.Rule.{Rule};
 ghost use Rattle.meaning.specs.Document.{Doc};
 ghost use Rattle.meaning.specs.Rules.{isReference};
 ghost use Rattle.meaning.specs.Select.{readsOwn};
-ghost use Rattle.document.specs.Lent.{Tree, Values, Checked};
+ghost use Rattle.columns.specs.Lent.{Tree, Values};
+ghost use Rattle.columns.specs.Judgeable.{Judgeable};
 ghost use Rattle.marks.specs.Marks.{Marks};
 ghost use Rattle.prepare.specs.Rows.{Rows};
 ghost use Rattle.prepare.specs.Rowed.{Rowed};
@@ -37,7 +38,7 @@ pub fn prepare(
     value: &[i32],
     rule: Rule,
 ) -> Prepared
-    requires { ⌜ (rule .steps ≤ 8) × ((doc : Doc) × Tree doc (now kind) (now name) (now parent) × Values doc (now kind) (now vkind) (now value) × Checked doc) ⌝ }
+    requires { ⌜ (rule .steps ≤ 8) × ((doc : Doc) × Tree doc (now kind) (now name) (now parent) × Values doc (now kind) (now vkind) (now value) × Judgeable doc) ⌝ }
     ensures rows { λ r. ⌜ ((doc : Doc) → Tree doc (now (kind .entry)) (now (name .entry)) (now (parent .entry)) → Values doc (now (kind .entry)) (now (vkind .entry)) (now (value .entry)) → Rows doc rule (r .start) (r .next) (r .last) (r .lower)) ⌝ }
     ensures read { λ r. ⌜ ((doc : Doc) → Tree doc (now (kind .entry)) (now (name .entry)) (now (parent .entry)) → Marks (readsOwn doc rule) (doc .size) (r .read)) ⌝ }
 {
@@ -69,7 +70,7 @@ pub fn prepare_referred(
     q: Rule,
     r: Rule,
 ) -> Prepared
-    requires { ⌜ (isReference r ≡ true → q .steps ≤ 8) × ((doc : Doc) × Tree doc (now kind) (now name) (now parent) × Values doc (now kind) (now vkind) (now value) × Checked doc) ⌝ }
+    requires { ⌜ (isReference r ≡ true → q .steps ≤ 8) × ((doc : Doc) × Tree doc (now kind) (now name) (now parent) × Values doc (now kind) (now vkind) (now value) × Judgeable doc) ⌝ }
     ensures referred { λ x. ⌜ ((doc : Doc) → Tree doc (now (kind .entry)) (now (name .entry)) (now (parent .entry)) → Values doc (now (kind .entry)) (now (vkind .entry)) (now (value .entry)) → isReference r ≡ true → Rowed doc q x) ⌝ }
     ensures some { λ x. ⌜ ((doc : Doc) → Tree doc (now (kind .entry)) (now (name .entry)) (now (parent .entry)) → Values doc (now (kind .entry)) (now (vkind .entry)) (now (value .entry)) → Rowed doc r own → ((p : Rule) × Rowed doc p x)) ⌝ }
 {

@@ -1,7 +1,7 @@
 // Which versions a rule reads: the selected ones and their field versions.
 use crate::fields::holders;
 use crate::select::mark_selected;
-use document::LIMIT;
+use columns::LIMIT;
 use meaning::Rule;
 use numbers::index;
 ghost use mathlib.Core.Path.{_≡_};
@@ -11,8 +11,9 @@ ghost use lib.ListN.{length};
 ghost use Rattle.meaning.specs.Document.{Doc};
 ghost use Rattle.meaning.specs.declared.Rule.{Rule};
 ghost use Rattle.meaning.specs.Select.{selected, readsOwn};
-ghost use Rattle.document.specs.Columns.{limit};
-ghost use Rattle.document.specs.Lent.{Tree, Checked};
+ghost use Rattle.meaning.specs.Block.{limit};
+ghost use Rattle.columns.specs.Lent.{Tree};
+ghost use Rattle.columns.specs.Judgeable.{Judgeable};
 ghost use Rattle.marks.specs.Marks.{Marks};
 ghost use Rattle.prepare.specs.Holders.{Holders};
 
@@ -47,7 +48,7 @@ pub fn mark_by(chosen: &[u8], holder: &[u16], n: usize) -> [u8; LIMIT]
 
 // A mark on each version that the rule by itself reads. Cost: three passes over the records, one of them with a climb from each version.
 pub fn mark_read(kind: &[u8], name: &[u16], parent: &[u16], rule: Rule) -> [u8; LIMIT]
-    requires { ⌜ (rule .steps ≤ 8) × ((doc : Doc) × Tree doc (now kind) (now name) (now parent) × Checked doc) ⌝ }
+    requires { ⌜ (rule .steps ≤ 8) × ((doc : Doc) × Tree doc (now kind) (now name) (now parent) × Judgeable doc) ⌝ }
     ensures { λ r. ⌜ ((doc : Doc) → Tree doc (now (kind .entry)) (now (name .entry)) (now (parent .entry)) → Marks (readsOwn doc rule) (doc .size) r) ⌝ }
 {
     let chosen = mark_selected(kind, name, parent, rule);

@@ -1,7 +1,7 @@
 // The rows of a rule: the way from one selected version to the next, and the chain of the field versions that matter with each.
-use document::LIMIT;
-use document::chains::Links;
-use document::chains::chain;
+use columns::LIMIT;
+use columns::chains::Links;
+use columns::chains::chain;
 use meaning::Rule;
 use numbers::index;
 ghost use mathlib.Core.Path.{_≡_};
@@ -13,8 +13,9 @@ ghost use lib.ListN.{length};
 ghost use Rattle.meaning.specs.Document.{Doc};
 ghost use Rattle.meaning.specs.declared.Rule.{Rule};
 ghost use Rattle.meaning.specs.Select.{selected};
-ghost use Rattle.document.specs.Columns.{limit};
-ghost use Rattle.document.specs.Lent.{Lends, Values, Checked};
+ghost use Rattle.meaning.specs.Block.{limit};
+ghost use Rattle.columns.specs.Lent.{Lends, Values};
+ghost use Rattle.columns.specs.Judgeable.{Judgeable};
 ghost use Rattle.marks.specs.Marks.{Marks};
 ghost use Rattle.prepare.specs.Holders.{Holders, Skips};
 ghost use Rattle.prepare.specs.Rows.{wants, inRow};
@@ -82,7 +83,7 @@ pub fn link(
     holder: &[u16],
     rule: Rule,
 ) -> Links
-    requires { ⌜ (length (now kind) ≤ length (now chosen)) × (length (now kind) ≤ length (now holder)) × ((doc : Doc) × Values doc (now kind) (now vkind) (now value) × Checked doc) ⌝ }
+    requires { ⌜ (length (now kind) ≤ length (now chosen)) × (length (now kind) ≤ length (now holder)) × ((doc : Doc) × Values doc (now kind) (now vkind) (now value) × Judgeable doc) ⌝ }
     ensures { λ r. ⌜ ((doc : Doc) → Values doc (now (kind .entry)) (now (vkind .entry)) (now (value .entry)) → Marks (selected doc rule) (doc .size) (now (chosen .entry)) → Holders doc rule (now (holder .entry)) → Linked doc rule (r .last) (r .lower)) ⌝ }
 {
     let key = keys(vkind, value, chosen, holder, rule);

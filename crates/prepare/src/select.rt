@@ -1,5 +1,5 @@
 // Which versions a rule selects: those whose item's names from the root on fit its path.
-use document::LIMIT;
+use columns::LIMIT;
 use meaning::Rule;
 use numbers::index;
 ghost use mathlib.Core.Path.{_≡_};
@@ -8,7 +8,8 @@ ghost use lib.Dec.{eqb};
 ghost use lib.ListN.{length};
 ghost use Rattle.meaning.specs.Document.{Doc};
 ghost use Rattle.meaning.specs.Select.{nameFits, pathTo, selected};
-ghost use Rattle.document.specs.Lent.{Tree, Checked};
+ghost use Rattle.columns.specs.Lent.{Tree};
+ghost use Rattle.columns.specs.Judgeable.{Judgeable};
 ghost use Rattle.marks.specs.Marks.{Marks};
 ghost use Rattle.prepare.specs.Standing.{Upward, Standing};
 
@@ -44,7 +45,7 @@ fn path_fits(name: &[u16], parent: &[u16], rule: Rule, v: usize) -> bool
 
 // The mark of record v: 1 where it is a selected version. Cost: one climb.
 fn selected_mark(kind: &[u8], name: &[u16], parent: &[u16], rule: Rule, v: usize) -> u8
-    requires { ⌜ (v < length (now kind)) × (rule .steps ≤ 8) × ((doc : Doc) × Tree doc (now kind) (now name) (now parent) × Checked doc) ⌝ }
+    requires { ⌜ (v < length (now kind)) × (rule .steps ≤ 8) × ((doc : Doc) × Tree doc (now kind) (now name) (now parent) × Judgeable doc) ⌝ }
     ensures { λ r. ⌜ ((doc : Doc) → Tree doc (now (kind .entry)) (now (name .entry)) (now (parent .entry)) → eqb r 1 ≡ selected doc rule v) ⌝ }
 {
     if kind[v] != 2 {
@@ -58,7 +59,7 @@ fn selected_mark(kind: &[u8], name: &[u16], parent: &[u16], rule: Rule, v: usize
 
 // A mark on each selected version. Cost: one pass over the records, with a climb from each version.
 pub fn mark_selected(kind: &[u8], name: &[u16], parent: &[u16], rule: Rule) -> [u8; LIMIT]
-    requires { ⌜ (rule .steps ≤ 8) × ((doc : Doc) × Tree doc (now kind) (now name) (now parent) × Checked doc) ⌝ }
+    requires { ⌜ (rule .steps ≤ 8) × ((doc : Doc) × Tree doc (now kind) (now name) (now parent) × Judgeable doc) ⌝ }
     ensures { λ r. ⌜ ((doc : Doc) → Tree doc (now (kind .entry)) (now (name .entry)) (now (parent .entry)) → Marks (selected doc rule) (doc .size) r) ⌝ }
 {
     let mut marks = [0u8; LIMIT];

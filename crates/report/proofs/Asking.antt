@@ -11,8 +11,8 @@ use Rattle.meaning.specs.Document.{Doc}
 use Rattle.meaning.specs.Nodes.{docOf, readNodes}
 use Rattle.meaning.specs.Rules.{ruleAt, rulesOf, readRules}
 use Rattle.meaning.specs.Answer.{referredBy, judged, readVerdict, verdict}
-use Rattle.nodes.specs.declared.Loaded.the-variants.{Nodes}
-use Rattle.nodes.specs.declared.Columns.{Columns}
+use Rattle.columns.specs.declared.Loaded.the-variants.{Nodes}
+use Rattle.columns.specs.declared.Columns.{Columns}
 use Rattle.nodes.specs.Unpacking.{Unpacks}
 use Rattle.nodes.proofs.Held.{held-image}
 use Rattle.rules.specs.Table.{Table}

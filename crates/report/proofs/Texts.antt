@@ -9,8 +9,8 @@ use Rattle.meaning.specs.declared.Verdict.{Verdict}
 use Rattle.meaning.specs.declared.Reading.the-variants as reading
 use Rattle.meaning.specs.Rules.{rulesOf, readRules}
 use Rattle.meaning.specs.Answer.{verdict}
-use Rattle.nodes.specs.declared.Loaded.the-variants.{Nodes, Refused as Unloaded}
-use Rattle.nodes.specs.declared.Columns.{Columns}
+use Rattle.columns.specs.declared.Loaded.the-variants.{Nodes, Refused as Unloaded}
+use Rattle.columns.specs.declared.Columns.{Columns}
 use Rattle.nodes.specs.Unpacking.{Unpacks}
 use Rattle.nodes.proofs.Held.{refused-image, held-image}
 use Rattle.spelling.specs.Puts.{Puts}

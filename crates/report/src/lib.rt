@@ -1,13 +1,13 @@
 // The text of a report on two images, in a lent buffer: a header and a line for each rule, or one line that says why there is none.
 use meaning::Reading;
-use nodes::Columns;
-use nodes::Loaded;
+use columns::Columns;
+use columns::Loaded;
 ghost use mathlib.Core.Path.{_≡_};
 ghost use lib.ListN.{length};
 ghost use Rattle.meaning.specs.declared.Reading.the-variants.{Accepted};
 ghost use Rattle.meaning.specs.Rules.{rulesOf, readRules};
 ghost use Rattle.meaning.specs.Answer.{verdict};
-ghost use Rattle.nodes.specs.declared.Loaded.the-variants.{Nodes};
+ghost use Rattle.columns.specs.declared.Loaded.the-variants.{Nodes};
 ghost use Rattle.nodes.specs.Unpacking.{Unpacks};
 ghost use Rattle.spelling.specs.Puts.{Puts};
 ghost use Rattle.report.specs.Opened.{Opened};

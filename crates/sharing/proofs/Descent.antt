@@ -8,8 +8,8 @@ use lib.ListN.{getD}
 use Rattle.meaning.specs.Walk.{any}
 use Rattle.meaning.proofs.Basics.{and-l, or-r}
 use Rattle.meaning.proofs.Loops.{any-last}
-use Rattle.document.specs.Chains.{pastLast}
-use Rattle.document.proofs.Along.{past-low, past-in, along-start}
+use Rattle.columns.specs.Chains.{pastLast}
+use Rattle.columns.proofs.Along.{past-low, past-in, along-start}
 use Rattle.day.specs.Row.{Chain}
 use Rattle.sharing.specs.Row.{someOf}
 

@@ -18,7 +18,7 @@ use Rattle.meaning.proofs.Basics.{went, and-l, and-same}
 use Rattle.meaning.proofs.Walks.{any-none, any-same, first-same}
 use Rattle.meaning.proofs.Selects.{selected-version, field-version, read-version}
 use Rattle.meaning.proofs.Agree.{Agree, offends-in-agree}
-use Rattle.document.specs.Lent.{Periods}
+use Rattle.columns.specs.Lent.{Periods}
 use Rattle.values.specs.Represents.{Represents}
 use Rattle.prepare.specs.Rows.{wants, inRow}
 use Rattle.day.specs.Ready.{Ready, Referred}

@@ -1,5 +1,5 @@
 // The lowest offender of one window, for a non-sequenced key, unique or reference rule.
-use document::LIMIT;
+use columns::LIMIT;
 use meaning::Found;
 use numbers::index;
 ghost use mathlib.Core.Path.{_≡_};
@@ -13,7 +13,7 @@ ghost use Rattle.meaning.specs.Document.{Doc};
 ghost use Rattle.meaning.specs.Rules.{isSequenced};
 ghost use Rattle.meaning.specs.Select.{selected};
 ghost use Rattle.meaning.specs.Window.{Window, meets, offendsIn};
-ghost use Rattle.document.specs.Columns.{limit};
+ghost use Rattle.meaning.specs.Block.{limit};
 ghost use Rattle.prepare.specs.Rows.{inRow};
 ghost use Rattle.day.specs.Ready.{Ready, Referred, Stamps};
 ghost use Rattle.day.specs.Row.{UpTo, stamped};

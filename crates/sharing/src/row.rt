@@ -4,7 +4,7 @@ ghost use mathlib.Core.Path.{_≡_};
 ghost use mathlib.Core.Bool.{Bool, true, _&&_, not};
 ghost use Prim.Native.Nat.{ℕ, _+_, _*_, _<_, _≤_};
 ghost use lib.ListN.{length, getD};
-ghost use Rattle.document.specs.Columns.{limit};
+ghost use Rattle.meaning.specs.Block.{limit};
 ghost use Rattle.day.specs.Row.{Chain, Fits, stamped};
 ghost use Rattle.sharing.specs.Row.{during, asks, Laid, Took, Claimed, Marked, Met, Passed, Room};
 

@@ -15,10 +15,8 @@ use Rattle.meaning.specs.Window.{Window, meets, under}
 use Rattle.meaning.proofs.Basics.{went, tests-same}
 use Rattle.meaning.proofs.Walks.{any-none, any-same, any-true}
 use Rattle.meaning.proofs.Says.{says}
-use Rattle.meaning.proofs.Selects.{selected-version, selected-here, field-version, version-here}
-use Rattle.meaning.proofs.Sound.{Version, Sound}
-use Rattle.meaning.proofs.Accepted.{periods, accepted-sound}
-use Rattle.document.specs.Lent.{Checked}
+use Rattle.meaning.proofs.Selects.{selected-version, selected-here, field-version}
+use Rattle.columns.specs.Judgeable.{Judgeable}
 use Rattle.prepare.specs.Rows.{wants, inRow}
 use Rattle.groups.specs.Groups.{inGroup}
 
@@ -64,14 +62,11 @@ module _ (doc : Doc) (r : Rule) where
         turn true true c = sym (and-true c)
         turn true false c = sym (and-false c)
 
--- an accepted document
-module _ (doc : Doc) (r : Rule) (ok : Checked doc) where
-  sound : Sound doc
-  sound = accepted-sound doc (ok .accepted)
-
+-- a document that can be judged
+module _ (doc : Doc) (r : Rule) (ok : Judgeable doc) where
   -- a version has a period
   pub lasting : (v : ℕ) → isVersion doc v ≡ true → doc .begin v < doc .end v
-  lasting v e = periods doc (sound .records) v (record { here = version-here doc v e; kind = eqb-true (doc .kind v) 2 e; of = refl })
+  lasting v e = ok .seated v (eqb-true (doc .kind v) 2 e) .lasts
 
   -- a field version lies within its selected version
   within-row : (v f : ℕ) → inRow doc r v f ≡ true → (doc .begin v ≤ doc .begin f) × (doc .end f ≤ doc .end v)
@@ -84,9 +79,9 @@ module _ (doc : Doc) (r : Rule) (ok : Checked doc) where
       (λ z.
       let t = simp says at (rw z at (s .0 .1)) in
       let up : above doc f ≡ v = t .1 in
-      let not-root : doc .parent f ≡ 0 → ⊥ = λ q. let b : above doc f ≡ 65535 = ap (doc .parent) q ∙ sound .records .root-parent (omega arith) in omega (arith, ok .few) in
-      let w : Version doc (doc .parent f) f = record { here = version-here doc f (row-version doc r v f e); kind = t .0 .0; of = refl } in
-      rw (sym up) (sound .placed .after (doc .parent f) f (omega arith) w, sound .placed .before (doc .parent f) f (omega arith) w))
+      let not-root : doc .parent f ≡ 0 → ⊥ = λ q. omega (arith, ap (doc .parent) q, ok .top) in
+      let w = ok .seated f (t .0 .0) .over (omega arith) in
+      rw (sym up) (w .from, w .to))
       (went (eqb (r .field) 0))
 
   -- so it meets no window that the selected version does not meet

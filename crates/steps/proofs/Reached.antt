@@ -18,7 +18,7 @@ use Rattle.meaning.proofs.Basics.{tests-same, and-l, and-r}
 use Rattle.meaning.proofs.Walks.{any-none, any-same, any-some, any-true}
 use Rattle.meaning.proofs.Says.{says}
 use Rattle.meaning.proofs.Selects.{selected-version}
-use Rattle.document.specs.Lent.{Checked}
+use Rattle.columns.specs.Judgeable.{Judgeable}
 use Rattle.prepare.specs.Rows.{inRow}
 use Rattle.prepare.proofs.Filling.{Filled}
 use Rattle.groups.specs.Groups.{inGroup}
@@ -112,7 +112,7 @@ module _ (doc : Doc) (r : Rule) (vkinds : List ℕ) (values : List ℤ) (begins 
           let t : eqb (doc .vkind f) 1 ≡ false = rw (s .vkind .at f) at (ne-eqb (getD vkinds f 0) 1 n) in
           lt-ltb a x (omega arith) ∙ sym (wrong-own a ∙ rw t)
 
-      module _ (ok : Checked doc) (flat : isSequenced r ≡ false) (day bar : ℕ) (d : day ≡ getD begins f 0)
+      module _ (ok : Judgeable doc) (flat : isSequenced r ≡ false) (day bar : ℕ) (d : day ≡ getD begins f 0)
           (b : Greatest (inGroup doc r (numberOf doc v)) (over ends day) (λ k. getD begins k 0) (length begins) bar) where
         -- what ends after the latest begin of those over by then is parted from f by nothing
         parted : (g : ℕ) → isVersion doc g ≡ true

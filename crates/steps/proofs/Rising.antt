@@ -13,8 +13,8 @@ use borrow.Author.Tests.{ltb-true, ltb-false, lt-ltb, le-ltb}
 use Rattle.meaning.specs.Walk.{any}
 use Rattle.meaning.proofs.Basics.{went, tests-same, and-l, or-cases, or-l, or-r}
 use Rattle.meaning.proofs.Loops.{any-last}
-use Rattle.document.specs.Chains.{pastLast}
-use Rattle.document.proofs.Along.{past-low, past-in, along-start}
+use Rattle.columns.specs.Chains.{pastLast}
+use Rattle.columns.proofs.Along.{past-low, past-in, along-start}
 use Rattle.steps.specs.Greatest.{Chain, Greatest, greater, stepsOut, stepsFrom}
 
 -- what is chosen by a test that passes, and by one that fails

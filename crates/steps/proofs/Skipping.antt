@@ -18,7 +18,8 @@ use Rattle.meaning.specs.Window.{Window, meets, offendsIn}
 use Rattle.meaning.proofs.Basics.{le-or-lt, never, tests-same, and-l}
 use Rattle.meaning.proofs.Walks.{first-at, first-none, first-same, any-true}
 use Rattle.meaning.proofs.Says.{says}
-use Rattle.document.specs.Lent.{Periods, Checked}
+use Rattle.columns.specs.Lent.{Periods}
+use Rattle.columns.specs.Judgeable.{Judgeable}
 use Rattle.marks.proofs.After.{after-is}
 use Rattle.prepare.specs.Holders.{Skips}
 use Rattle.prepare.specs.Rows.{inRow}
@@ -74,7 +75,7 @@ module _ (begins ends reach : List ℕ) (from to n start : ℕ) (next : List ℕ
           }
 
 -- what the lists tell of a window is what the meaning says
-module _ (doc : Doc) (q r : Rule) (w : Window) (begins ends reach : List ℕ) (p : Periods doc begins ends) (s : Reaches doc r reach) (ok : Checked doc)
+module _ (doc : Doc) (q r : Rule) (w : Window) (begins ends reach : List ℕ) (p : Periods doc begins ends) (s : Reaches doc r reach) (ok : Judgeable doc)
     (flat : isSequenced r ≡ false) (kind : r .kind ≡ 5) (from to : ℕ) (f-is : w .from ≡ from) (t-is : w .to ≡ to) (low : from ≤ 36524) where
   wrong-version : (f a : ℕ) → wrongAfter doc r f a ≡ true → isVersion doc f ≡ true
   unfolding wrongAfter

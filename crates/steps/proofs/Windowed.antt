@@ -14,7 +14,7 @@ use Rattle.meaning.specs.Window.{Window, meets, under, follows, jumps, datatype
 use Rattle.meaning.proofs.Basics.{and-same}
 use Rattle.meaning.proofs.Walks.{any-same}
 use Rattle.meaning.proofs.Says.{says}
-use Rattle.document.specs.Lent.{Checked}
+use Rattle.columns.specs.Judgeable.{Judgeable}
 use Rattle.prepare.specs.Rows.{inRow}
 use Rattle.groups.specs.Groups.{inGroup}
 use Rattle.steps.specs.Reaching.{always, wrongUnder, wrongAfter}
@@ -33,7 +33,7 @@ last-of false m c d p = refl
 last-of true false c d p = sym (and-false d)
 last-of true true c d p = p refl ∙ sym (and-true d)
 
-module _ (doc : Doc) (r : Rule) (ok : Checked doc) (flat : isSequenced r ≡ false) where
+module _ (doc : Doc) (r : Rule) (ok : Judgeable doc) (flat : isSequenced r ≡ false) where
   -- of no window in particular
   pub under-ever : (n f : ℕ) → under doc always r n f ≡ inGroup doc r n f
   under-ever n f = under-group doc r flat always (λ v g e t. refl) n f ∙ and-true (inGroup doc r n f)

@@ -8,7 +8,7 @@ use lib.Signed.{leZ}
 use lib.Dec.{leb, ltb, eqb}
 use lib.ListN.{getD}
 use Rattle.meaning.specs.Walk.{any}
-use Rattle.document.specs.Chains.{pastLast}
+use Rattle.columns.specs.Chains.{pastLast}
 
 -- the records below n that `member` passes, chained: `past` is one past the last of them, `lower` leads from each to the one before
 pub record Chain (member : ℕ → Bool) (n past : ℕ) (lower : List ℕ) : Type 0 where

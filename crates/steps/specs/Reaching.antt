@@ -11,7 +11,7 @@ use Rattle.meaning.specs.Walk.{any}
 use Rattle.meaning.specs.Document.{Doc, isVersion, numberOf}
 use Rattle.meaning.specs.Select.{isNumber}
 use Rattle.meaning.specs.Window.{jumps}
-use Rattle.document.specs.Lent.{Lends, Periods}
+use Rattle.columns.specs.Lent.{Lends, Periods}
 use Rattle.prepare.specs.Rows.{inRow}
 use Rattle.prepare.specs.Keys.{Keys}
 use Rattle.groups.specs.Groups.{Gathered}

@@ -1,6 +1,6 @@
 // The lowest offender of one window, for a non-sequenced datatype rule: how far back a window must reach for each field version to offend,
 // worked out once for the rule, and a walk over those that can offend.
-use document::LIMIT;
+use columns::LIMIT;
 use meaning::Found;
 use numbers::index;
 ghost use mathlib.Core.Path.{_≡_};
@@ -13,8 +13,9 @@ ghost use Rattle.meaning.specs.Walk.{first};
 ghost use Rattle.meaning.specs.Document.{Doc};
 ghost use Rattle.meaning.specs.Rules.{isSequenced};
 ghost use Rattle.meaning.specs.Window.{Window, meets, offendsIn};
-ghost use Rattle.document.specs.Columns.{limit};
-ghost use Rattle.document.specs.Lent.{Periods, Checked};
+ghost use Rattle.meaning.specs.Block.{limit};
+ghost use Rattle.columns.specs.Lent.{Periods};
+ghost use Rattle.columns.specs.Judgeable.{Judgeable};
 ghost use Rattle.marks.specs.Marks.{Marks};
 ghost use Rattle.prepare.specs.Holders.{Skips};
 ghost use Rattle.steps.specs.Reaching.{wrongAfter, Reaches, Ready};
@@ -38,8 +39,8 @@ fn reach_of(
     high: i32,
     f: usize,
 ) -> u16
-    requires { ⌜ (f < length (now vkind)) × ((doc : Doc) × (r : Rule) × Ready doc r (now vkind) (now value) (now begin) (now end) (now key) (now group) (now last) (now lower) × Checked doc) ⌝ }
-    ensures { λ x. ⌜ ((doc : Doc) (r : Rule) → Ready doc r (now (vkind .entry)) (now (value .entry)) (now (begin .entry)) (now (end .entry)) (now (key .entry)) (now (group .entry)) (now (last .entry)) (now (lower .entry)) → Checked doc → isSequenced r ≡ false → low ≡ r .low → high ≡ r .high → (a : ℕ) → a ≤ 36524 → ltb a x ≡ wrongAfter doc r f a) ⌝ }
+    requires { ⌜ (f < length (now vkind)) × ((doc : Doc) × (r : Rule) × Ready doc r (now vkind) (now value) (now begin) (now end) (now key) (now group) (now last) (now lower) × Judgeable doc) ⌝ }
+    ensures { λ x. ⌜ ((doc : Doc) (r : Rule) → Ready doc r (now (vkind .entry)) (now (value .entry)) (now (begin .entry)) (now (end .entry)) (now (key .entry)) (now (group .entry)) (now (last .entry)) (now (lower .entry)) → Judgeable doc → isSequenced r ≡ false → low ≡ r .low → high ≡ r .high → (a : ℕ) → a ≤ 36524 → ltb a x ≡ wrongAfter doc r f a) ⌝ }
 {
     let v = index(key[f]);
     if vkind.len() <= v {
@@ -79,8 +80,8 @@ pub fn reaches(
     low: i32,
     high: i32,
 ) -> [u16; LIMIT]
-    requires { ⌜ ((doc : Doc) × (r : Rule) × Ready doc r (now vkind) (now value) (now begin) (now end) (now key) (now group) (now last) (now lower) × Checked doc) ⌝ }
-    ensures { λ x. ⌜ ((doc : Doc) (r : Rule) → Ready doc r (now (vkind .entry)) (now (value .entry)) (now (begin .entry)) (now (end .entry)) (now (key .entry)) (now (group .entry)) (now (last .entry)) (now (lower .entry)) → Checked doc → isSequenced r ≡ false → low ≡ r .low → high ≡ r .high → Reaches doc r x) ⌝ }
+    requires { ⌜ ((doc : Doc) × (r : Rule) × Ready doc r (now vkind) (now value) (now begin) (now end) (now key) (now group) (now last) (now lower) × Judgeable doc) ⌝ }
+    ensures { λ x. ⌜ ((doc : Doc) (r : Rule) → Ready doc r (now (vkind .entry)) (now (value .entry)) (now (begin .entry)) (now (end .entry)) (now (key .entry)) (now (group .entry)) (now (last .entry)) (now (lower .entry)) → Judgeable doc → isSequenced r ≡ false → low ≡ r .low → high ≡ r .high → Reaches doc r x) ⌝ }
 {
     let mut out = [0u16; LIMIT];
     let mut f = 0;
@@ -139,7 +140,7 @@ pub fn stepped_in(
 ) -> Found
     requires rooms { ⌜ (length (now begin) ≤ length (now end)) × (length (now begin) ≤ length (now reach)) ⌝ }
     requires way { ⌜ Skips (λ f. ltb 0 (getD (now reach) f 0)) (length (now begin)) start (now next) ⌝ }
-    ensures { λ x. ⌜ ((doc : Doc) (q r : Rule) (w : Window) → Periods doc (now (begin .entry)) (now (end .entry)) → Reaches doc r (now (reach .entry)) → Checked doc → isSequenced r ≡ false → r .kind ≡ 5 → w .from ≡ from → w .to ≡ to → from ≤ 36524 → x ≡ first (offendsIn doc (meets doc w) q r) 0 (doc .size)) ⌝ }
+    ensures { λ x. ⌜ ((doc : Doc) (q r : Rule) (w : Window) → Periods doc (now (begin .entry)) (now (end .entry)) → Reaches doc r (now (reach .entry)) → Judgeable doc → isSequenced r ≡ false → r .kind ≡ 5 → w .from ≡ from → w .to ≡ to → from ≤ 36524 → x ≡ first (offendsIn doc (meets doc w) q r) 0 (doc .size)) ⌝ }
 {
     let mut f = start;
     while f < begin.len() {

@@ -19,8 +19,8 @@ use Rattle.meaning.proofs.Basics.{tests-same, and-r}
 use Rattle.meaning.proofs.Walks.{first-same, first-found}
 use Rattle.meaning.proofs.Places.{counted}
 use Rattle.meaning.proofs.Says.{says}
-use Rattle.document.specs.Columns.{limit}
-use Rattle.document.specs.Lent.{Values}
+use Rattle.meaning.specs.Block.{limit}
+use Rattle.columns.specs.Lent.{Values}
 use Rattle.values.specs.Represents.{Represents}
 use Rattle.values.specs.Chosen.{Even, held, alike, Chosen, ChosenBelow}
 

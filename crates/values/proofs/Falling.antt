@@ -13,8 +13,8 @@ use Rattle.meaning.proofs.Basics.{clear, both}
 use Rattle.meaning.proofs.Walks.{any-false, first-at}
 use Rattle.meaning.proofs.Places.{counted}
 use Rattle.meaning.proofs.Says.{says}
-use Rattle.document.specs.Chains.{pastLast}
-use Rattle.document.proofs.Along.{Along, past-low, along-start, along-next, along-end}
+use Rattle.columns.specs.Chains.{pastLast}
+use Rattle.columns.proofs.Along.{Along, past-low, along-start, along-next, along-end}
 use Rattle.values.specs.Chosen.{alike, Chosen, ChosenBelow, ByValue}
 use Rattle.values.proofs.Equals.{agreeing, lowest-same}
 

@@ -10,7 +10,7 @@ use lib.Signed.{mag}
 use lib.ListN.{length, getD, length-map, List·getD-map}
 use Rattle.meaning.proofs.Basics.{both}
 use Rattle.numbers.proofs.Callers as callers
-use Rattle.document.specs.Chains.{Grouped, Chained}
+use Rattle.columns.specs.Chains.{Grouped, Chained}
 use Rattle.values.specs.Chosen.{Even, held, ByValue}
 use Rattle.values.proofs.Equals.{agree}
 

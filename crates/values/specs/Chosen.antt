@@ -10,8 +10,8 @@ use Rattle.meaning.specs.declared.Found.the-variants.{At}
 use Rattle.meaning.specs.Walk.{first}
 use Rattle.meaning.specs.Document.{Doc, columns, isVersion}
 use Rattle.meaning.specs.Select.{sameValue}
-use Rattle.document.specs.Columns.{limit}
-use Rattle.document.specs.Chains.{pastLast}
+use Rattle.meaning.specs.Block.{limit}
+use Rattle.columns.specs.Chains.{pastLast}
 
 -- three columns of one length, and no longer than a document can be
 pub record Even (kinds vkinds : List ℕ) (values : List ℤ) : Type 0 where

@@ -1,6 +1,6 @@
 // A representative for each version, equal exactly for equal values, so that two values are compared by comparing two numbers.
-use document::LIMIT;
-use document::chains::chain;
+use columns::LIMIT;
+use columns::chains::chain;
 use numbers::index;
 use numbers::magnitude;
 ghost use mathlib.Core.Path.{_≡_};
@@ -10,9 +10,9 @@ ghost use lib.Signed.{mag};
 ghost use lib.ListN.{length};
 ghost use Rattle.meaning.specs.Document.{Doc};
 ghost use Rattle.meaning.specs.Select.{sameValue};
-ghost use Rattle.document.specs.Columns.{limit};
-ghost use Rattle.document.specs.Chains.{Grouped};
-ghost use Rattle.document.specs.Lent.{Values};
+ghost use Rattle.meaning.specs.Block.{limit};
+ghost use Rattle.columns.specs.Chains.{Grouped};
+ghost use Rattle.columns.specs.Lent.{Values};
 ghost use Rattle.values.specs.Represents.{Represents};
 ghost use Rattle.values.specs.Chosen.{Even, held, Chosen, ChosenBelow, ByValue};
 

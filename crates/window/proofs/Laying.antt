@@ -11,7 +11,8 @@ use Rattle.meaning.specs.Document.{Doc}
 use Rattle.meaning.specs.Rules.{isReference, isSequenced, ruleFields}
 use Rattle.meaning.specs.Select.{valued}
 use Rattle.meaning.proofs.Tables.{rule-row}
-use Rattle.document.specs.Lent.{Periods, Checked}
+use Rattle.columns.specs.Lent.{Periods}
+use Rattle.columns.specs.Judgeable.{Judgeable}
 use Rattle.values.specs.Represents.{Represents}
 use Rattle.prepare.specs.Rows.{wants, Rows}
 use Rattle.day.specs.Ready.{TermsBy, Terms}
@@ -29,12 +30,12 @@ counting r mode t d k = let s = rw k at t in record { kind = k; low-is = s .1; h
 pub laid : {doc : Doc} {q r : Rule} {start : ℕ} {next last lower : List ℕ} {held-start : ℕ} {held-next held-last held-lower begins ends reps groups : List ℕ}
     {distinct : Bool} (mode : ℕ) {low high : ℕ} → Spread doc r start next last lower groups
     → (isReference r ≡ true → Rows doc q held-start held-next held-last held-lower × ((f : ℕ) → wants doc q f ≡ valued doc f))
-    → Periods doc begins ends → Represents doc reps → Groups doc groups → Checked doc → ruleFields r ≡ true → isSequenced r ≡ false → Terms r mode low high
+    → Periods doc begins ends → Represents doc reps → Groups doc groups → Judgeable doc → ruleFields r ≡ true → isSequenced r ≡ false → Terms r mode low high
     → distinct ≡ eqb (r .distinct) 1
     → Laid doc q r start next last lower held-start held-next held-last held-lower begins ends reps groups distinct low high
 laid {doc} {q} {r} mode s held w v g ok f flat t d =
     record {
-      checked = ok;
+      judgeable = ok;
       windowed = flat;
       kind = rule-row r .0 f .kind;
       kind-most = rule-row r .0 f .kind-most;
@@ -48,7 +49,7 @@ laid {doc} {q} {r} mode s held w v g ok f flat t d =
           );
       counting = λ k. (
           let p = s .counting k in (
-            record { checked = ok; windowed = flat; skips = p .0; periods = w; represents = v; classes = g; gathered = p .1 },
+            record { judgeable = ok; windowed = flat; skips = p .0; periods = w; represents = v; classes = g; gathered = p .1 },
             counting r mode t d k,
           )
           );

@@ -14,7 +14,7 @@ use Rattle.meaning.specs.Walk.{first}
 use Rattle.meaning.specs.Document.{Doc}
 use Rattle.meaning.specs.Window.{Window, meets, offendsIn, offenderIn}
 use Rattle.meaning.proofs.Basics.{went}
-use Rattle.document.specs.Columns.{limit}
+use Rattle.meaning.specs.Block.{limit}
 use Rattle.prepare.specs.Holders.{Skips}
 use Rattle.window.specs.Laid.{Laid}
 

@@ -12,7 +12,7 @@ use Rattle.meaning.specs.Document.{Doc}
 use Rattle.meaning.specs.Rules.{ruleFields}
 use Rattle.meaning.proofs.Selects.{version-here}
 use Rattle.meaning.proofs.Tables.{rule-row}
-use Rattle.document.specs.Lent.{Values, Periods}
+use Rattle.columns.specs.Lent.{Values, Periods}
 use Rattle.prepare.specs.Holders.{Skips}
 use Rattle.prepare.specs.Keys.{Keys}
 use Rattle.prepare.specs.Rows.{Rows}

@@ -8,7 +8,8 @@ use lib.ListN.{getD}
 use Rattle.meaning.specs.declared.Rule.{Rule}
 use Rattle.meaning.specs.Document.{Doc}
 use Rattle.meaning.specs.Rules.{isSequenced}
-use Rattle.document.specs.Lent.{Periods, Checked}
+use Rattle.columns.specs.Lent.{Periods}
+use Rattle.columns.specs.Judgeable.{Judgeable}
 use Rattle.prepare.specs.Holders.{Skips}
 use Rattle.day.specs.Ready.{Ready, Referred}
 use Rattle.groups.specs.Groups.{Groups}
@@ -19,7 +20,7 @@ use Rattle.steps.specs.Reaching.{Reaches}
 -- versions and the chains of field versions under one item number; for a datatype the way along the field versions with a reach, in `last`
 pub record Laid (doc : Doc) (q r : Rule) (start : ℕ) (next last lower : List ℕ) (held-start : ℕ) (held-next held-last held-lower begins ends reps groups : List ℕ)
     (distinct : Bool) (low high : ℕ) : Type 0 where
-  pub checked : Checked doc
+  pub judgeable : Judgeable doc
   pub windowed : isSequenced r ≡ false
   pub kind : 1 ≤ r .kind
   pub kind-most : r .kind ≤ 5

@@ -1,12 +1,13 @@
 // The lists from which the offenders of a rule's windows are worked out, laid out once for the rule.
-use document::LIMIT;
+use columns::LIMIT;
 use meaning::Rule;
 use prepare::Prepared;
 ghost use mathlib.Core.Path.{_≡_};
 ghost use mathlib.Core.Bool.{true, false};
 ghost use Rattle.meaning.specs.Document.{Doc};
 ghost use Rattle.meaning.specs.Rules.{isSequenced, ruleFields};
-ghost use Rattle.document.specs.Lent.{Tree, Values, Periods, Checked};
+ghost use Rattle.columns.specs.Lent.{Tree, Values, Periods};
+ghost use Rattle.columns.specs.Judgeable.{Judgeable};
 ghost use Rattle.prepare.specs.Rows.{Rows};
 ghost use Rattle.prepare.specs.Keys.{Keys};
 ghost use Rattle.groups.specs.Groups.{Groups};
@@ -29,7 +30,7 @@ fn keys_of(
     value: &[i32],
     rule: Rule,
 ) -> [u16; LIMIT]
-    requires { ⌜ (ruleFields rule ≡ true) × ((doc : Doc) × Tree doc (now kind) (now name) (now parent) × Values doc (now kind) (now vkind) (now value) × Checked doc) ⌝ }
+    requires { ⌜ (ruleFields rule ≡ true) × ((doc : Doc) × Tree doc (now kind) (now name) (now parent) × Values doc (now kind) (now vkind) (now value) × Judgeable doc) ⌝ }
     ensures { λ r. ⌜ ((doc : Doc) → Tree doc (now (kind .entry)) (now (name .entry)) (now (parent .entry)) → Values doc (now (kind .entry)) (now (vkind .entry)) (now (value .entry)) → Keys doc rule r) ⌝ }
 {
     let chosen = prepare::select::mark_selected(kind, name, parent, rule);
@@ -49,7 +50,7 @@ fn lay_counted(
     own: Prepared,
     rule: Rule,
 ) -> Layout
-    requires { ⌜ (ruleFields rule ≡ true) × ((doc : Doc) × Tree doc (now kind) (now name) (now parent) × Values doc (now kind) (now vkind) (now value) × Groups doc (now group) × Checked doc) ⌝ }
+    requires { ⌜ (ruleFields rule ≡ true) × ((doc : Doc) × Tree doc (now kind) (now name) (now parent) × Values doc (now kind) (now vkind) (now value) × Groups doc (now group) × Judgeable doc) ⌝ }
     ensures { λ x. ⌜ ((doc : Doc) → Tree doc (now (kind .entry)) (now (name .entry)) (now (parent .entry)) → Values doc (now (kind .entry)) (now (vkind .entry)) (now (value .entry)) → Groups doc (now (group .entry)) → Rows doc rule (own .start) (own .next) (own .last) (own .lower) → rule .kind ≡ 4 → Spread doc rule (x .start) (x .next) (x .last) (x .lower) (now (group .entry))) ⌝ }
 {
     let key = keys_of(kind, vkind, name, parent, value, rule);
@@ -78,8 +79,8 @@ fn lay_stepped(
     group: &[u16],
     rule: Rule,
 ) -> Layout
-    requires { ⌜ (ruleFields rule ≡ true) × ((doc : Doc) × Tree doc (now kind) (now name) (now parent) × Values doc (now kind) (now vkind) (now value) × Periods doc (now begin) (now end) × Groups doc (now group) × Checked doc) ⌝ }
-    ensures { λ x. ⌜ ((doc : Doc) → Tree doc (now (kind .entry)) (now (name .entry)) (now (parent .entry)) → Values doc (now (kind .entry)) (now (vkind .entry)) (now (value .entry)) → Periods doc (now (begin .entry)) (now (end .entry)) → Groups doc (now (group .entry)) → Checked doc → isSequenced rule ≡ false → rule .kind ≡ 5 → Spread doc rule (x .start) (x .next) (x .last) (x .lower) (now (group .entry))) ⌝ }
+    requires { ⌜ (ruleFields rule ≡ true) × ((doc : Doc) × Tree doc (now kind) (now name) (now parent) × Values doc (now kind) (now vkind) (now value) × Periods doc (now begin) (now end) × Groups doc (now group) × Judgeable doc) ⌝ }
+    ensures { λ x. ⌜ ((doc : Doc) → Tree doc (now (kind .entry)) (now (name .entry)) (now (parent .entry)) → Values doc (now (kind .entry)) (now (vkind .entry)) (now (value .entry)) → Periods doc (now (begin .entry)) (now (end .entry)) → Groups doc (now (group .entry)) → Judgeable doc → isSequenced rule ≡ false → rule .kind ≡ 5 → Spread doc rule (x .start) (x .next) (x .last) (x .lower) (now (group .entry))) ⌝ }
 {
     let key = keys_of(kind, vkind, name, parent, value, rule);
     let links = groups::gather(kind, &key, group);
@@ -121,8 +122,8 @@ pub fn lay_out(
     own: Prepared,
     rule: Rule,
 ) -> Layout
-    requires { ⌜ (ruleFields rule ≡ true) × ((doc : Doc) × Tree doc (now kind) (now name) (now parent) × Values doc (now kind) (now vkind) (now value) × Periods doc (now begin) (now end) × Groups doc (now group) × Checked doc) ⌝ }
-    ensures { λ x. ⌜ ((doc : Doc) → Tree doc (now (kind .entry)) (now (name .entry)) (now (parent .entry)) → Values doc (now (kind .entry)) (now (vkind .entry)) (now (value .entry)) → Periods doc (now (begin .entry)) (now (end .entry)) → Groups doc (now (group .entry)) → Checked doc → isSequenced rule ≡ false → Rows doc rule (own .start) (own .next) (own .last) (own .lower) → Spread doc rule (x .start) (x .next) (x .last) (x .lower) (now (group .entry))) ⌝ }
+    requires { ⌜ (ruleFields rule ≡ true) × ((doc : Doc) × Tree doc (now kind) (now name) (now parent) × Values doc (now kind) (now vkind) (now value) × Periods doc (now begin) (now end) × Groups doc (now group) × Judgeable doc) ⌝ }
+    ensures { λ x. ⌜ ((doc : Doc) → Tree doc (now (kind .entry)) (now (name .entry)) (now (parent .entry)) → Values doc (now (kind .entry)) (now (vkind .entry)) (now (value .entry)) → Periods doc (now (begin .entry)) (now (end .entry)) → Groups doc (now (group .entry)) → Judgeable doc → isSequenced rule ≡ false → Rows doc rule (own .start) (own .next) (own .last) (own .lower) → Spread doc rule (x .start) (x .next) (x .last) (x .lower) (now (group .entry))) ⌝ }
 {
     if rule.kind == 4 {
         return lay_counted(kind, vkind, name, parent, value, group, own, rule);

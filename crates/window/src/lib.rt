@@ -7,7 +7,7 @@ ghost use lib.ListN.{getD};
 ghost use Rattle.meaning.specs.declared.Rule.{Rule};
 ghost use Rattle.meaning.specs.Document.{Doc};
 ghost use Rattle.meaning.specs.Window.{Window, offenderIn};
-ghost use Rattle.document.specs.Columns.{limit};
+ghost use Rattle.meaning.specs.Block.{limit};
 ghost use Rattle.day.specs.Ready.{Stamps};
 ghost use Rattle.window.specs.Laid.{Laid};
 

@@ -7,7 +7,8 @@ use Rattle.meaning.specs.declared.Rule.{Rule}
 use Rattle.meaning.specs.Document.{Doc}
 use Rattle.meaning.specs.Rules.{isKey, isUnique, isReference}
 use Rattle.meaning.specs.Select.{readsOwn}
-use Rattle.document.specs.Lent.{Periods, Checked}
+use Rattle.columns.specs.Lent.{Periods}
+use Rattle.columns.specs.Judgeable.{Judgeable}
 use Rattle.marks.specs.Marks.{Marks}
 use Rattle.values.specs.Represents.{Represents}
 use Rattle.prepare.specs.declared.Prepared.{Prepared}
@@ -23,7 +24,7 @@ use Rattle.windows.specs.Settled.{Settled}
 pub gathered : {doc : Doc} {p q r : Rule} {laid : Layout} {own held : Prepared} {begins ends reps groups : List ℕ} → (isReference r ≡ true → p ≡ q)
     → (isReference r ≡ true → (isKey q || isUnique q) ≡ true) → Rows doc r (own .start) (own .next) (own .last) (own .lower) → Marks (readsOwn doc r) (doc .size) (own .read)
     → (isReference r ≡ true → Rowed doc q held) → (Rowed doc r own → (o : Rule) × Rowed doc o held)
-    → Spread doc r (laid .start) (laid .next) (laid .last) (laid .lower) groups → Periods doc begins ends → Represents doc reps → Groups doc groups → Checked doc
+    → Spread doc r (laid .start) (laid .next) (laid .last) (laid .lower) groups → Periods doc begins ends → Represents doc reps → Groups doc groups → Judgeable doc
     → Settled doc p r (own .read) laid held begins ends reps groups
 gathered {doc} {p} {q} same kinds rows read referred some s w v g c =
     let own : Rowed doc _ _ = record { rows = rows; read = read } in
@@ -37,5 +38,5 @@ gathered {doc} {p} {q} same kinds rows read referred some s w v g c =
       periods = w;
       represents = v;
       classes = g;
-      checked = c;
+      judgeable = c;
     }

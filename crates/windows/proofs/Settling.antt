@@ -31,12 +31,12 @@ lookable {doc} {q} {r} l k =
       rule = r;
       laid = l;
       same-kind = k;
-      stamped = record { room = omega (arith, l .checked .few, n); low = λ x. omega (arith, day-zeros 1000 x) };
-      seen = record { room = omega (arith, l .checked .few, n); low = λ x. omega (arith, day-zeros 1000 x) };
+      stamped = record { room = omega (arith, l .judgeable .few, n); low = λ x. omega (arith, day-zeros 1000 x) };
+      seen = record { room = omega (arith, l .judgeable .few, n); low = λ x. omega (arith, day-zeros 1000 x) };
     }
 
 -- what a rule is judged from, with its terms, is laid for the windows
 pub settled-laid : {doc : Doc} {q r : Rule} {read : List ℕ} {lay : Layout} {held : Prepared} {begins ends reps groups : List ℕ} (mode : ℕ) {low high : ℕ}
     → Settled doc q r read lay held begins ends reps groups → ruleFields r ≡ true → isSequenced r ≡ false → Terms r mode low high
     → Laid doc q r (lay .start) (lay .next) (lay .last) (lay .lower) (held .start) (held .next) (held .last) (held .lower) begins ends reps groups (eqb (r .distinct) 1) low high
-settled-laid mode s f flat t = laid mode (s .spread) (s .referred) (s .periods) (s .represents) (s .classes) (s .checked) f flat t refl
+settled-laid mode s f flat t = laid mode (s .spread) (s .referred) (s .periods) (s .represents) (s .classes) (s .judgeable) f flat t refl

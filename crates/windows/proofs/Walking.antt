@@ -15,7 +15,7 @@ use Rattle.meaning.specs.declared.Verdict.{Verdict}
 use Rattle.meaning.specs.declared.Verdict.the-variants.{Holds, Fails}
 use Rattle.meaning.specs.Walk.{onFound}
 use Rattle.meaning.specs.Window.{least}
-use Rattle.document.specs.Columns.{limit}
+use Rattle.meaning.specs.Block.{limit}
 use Rattle.windows.specs.Placing.{placeDay}
 use Rattle.windows.specs.Walkable.{Reaches, Alike}
 use Rattle.windows.proofs.Starting.{place-low}

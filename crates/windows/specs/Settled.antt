@@ -8,7 +8,8 @@ use Rattle.meaning.specs.declared.Rule.{Rule}
 use Rattle.meaning.specs.Document.{Doc}
 use Rattle.meaning.specs.Rules.{isReference}
 use Rattle.meaning.specs.Select.{readsOwn, valued}
-use Rattle.document.specs.Lent.{Periods, Checked}
+use Rattle.columns.specs.Lent.{Periods}
+use Rattle.columns.specs.Judgeable.{Judgeable}
 use Rattle.marks.specs.Marks.{Marks}
 use Rattle.values.specs.Represents.{Represents}
 use Rattle.prepare.specs.declared.Prepared.{Prepared}
@@ -28,4 +29,4 @@ pub record Settled (doc : Doc) (q r : Rule) (marks : List ℕ) (laid : Layout) (
   pub periods : Periods doc begins ends
   pub represents : Represents doc reps
   pub classes : Groups doc groups
-  pub checked : Checked doc
+  pub judgeable : Judgeable doc

@@ -8,7 +8,7 @@ use Rattle.meaning.specs.declared.Found.{Found}
 use Rattle.meaning.specs.declared.Rule.{Rule}
 use Rattle.meaning.specs.Document.{Doc}
 use Rattle.meaning.specs.Window.{offenderIn, least}
-use Rattle.document.specs.Columns.{limit}
+use Rattle.meaning.specs.Block.{limit}
 use Rattle.marks.specs.Marks.{marked}
 use Rattle.day.specs.Ready.{Stamps}
 use Rattle.window.specs.Laid.{Laid}

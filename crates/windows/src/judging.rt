@@ -1,6 +1,6 @@
 // The verdict on a non-sequenced rule whose lists are laid out: the arrays of the walk, and its places.
 use crate::places::Places;
-use document::LIMIT;
+use columns::LIMIT;
 use meaning::Rule;
 use meaning::Verdict;
 use prepare::Prepared;

@@ -10,7 +10,8 @@ ghost use Rattle.meaning.specs.Document.{Doc};
 ghost use Rattle.meaning.specs.Rules.{isKey, isUnique, isReference, isSequenced, ruleFields};
 ghost use Rattle.meaning.specs.Day.{isChange};
 ghost use Rattle.meaning.specs.Window.{inWindows};
-ghost use Rattle.document.specs.Lent.{Tree, Values, Periods, Numbers, Checked};
+ghost use Rattle.columns.specs.Lent.{Tree, Values, Periods, Numbers};
+ghost use Rattle.columns.specs.Judgeable.{Judgeable};
 ghost use Rattle.marks.specs.Marks.{Marks};
 ghost use Rattle.values.specs.Represents.{Represents};
 ghost use Rattle.window.specs.Laid.{Laid};
@@ -109,8 +110,8 @@ pub fn verdict(
     q: Rule,
     r: Rule,
 ) -> Verdict
-    requires { ⌜ (ruleFields r ≡ true) × (isSequenced r ≡ false) × (isReference r ≡ true → (ruleFields q ≡ true) × ((isKey q || isUnique q) ≡ true)) × ((doc : Doc) × Tree doc (now kind) (now name) (now parent) × Values doc (now kind) (now vkind) (now value) × Periods doc (now begin) (now end) × Numbers doc (now kind) (now parent) (now item) × Represents doc (now rep) × Checked doc) ⌝ }
-    ensures { λ x. ⌜ ((doc : Doc) → (p : Rule) → Tree doc (now (kind .entry)) (now (name .entry)) (now (parent .entry)) → Values doc (now (kind .entry)) (now (vkind .entry)) (now (value .entry)) → Periods doc (now (begin .entry)) (now (end .entry)) → Numbers doc (now (kind .entry)) (now (parent .entry)) (now (item .entry)) → Represents doc (now (rep .entry)) → Checked doc → (isReference r ≡ true → p ≡ q) → x ≡ inWindows doc p r) ⌝ }
+    requires { ⌜ (ruleFields r ≡ true) × (isSequenced r ≡ false) × (isReference r ≡ true → (ruleFields q ≡ true) × ((isKey q || isUnique q) ≡ true)) × ((doc : Doc) × Tree doc (now kind) (now name) (now parent) × Values doc (now kind) (now vkind) (now value) × Periods doc (now begin) (now end) × Numbers doc (now kind) (now parent) (now item) × Represents doc (now rep) × Judgeable doc) ⌝ }
+    ensures { λ x. ⌜ ((doc : Doc) → (p : Rule) → Tree doc (now (kind .entry)) (now (name .entry)) (now (parent .entry)) → Values doc (now (kind .entry)) (now (vkind .entry)) (now (value .entry)) → Periods doc (now (begin .entry)) (now (end .entry)) → Numbers doc (now (kind .entry)) (now (parent .entry)) (now (item .entry)) → Represents doc (now (rep .entry)) → Judgeable doc → (isReference r ≡ true → p ≡ q) → x ≡ inWindows doc p r) ⌝ }
 {
     let own = prepare::prepare(kind, vkind, name, parent, value, r);
     let held = prepare::prepare_referred(kind, vkind, name, parent, value, own, q, r);

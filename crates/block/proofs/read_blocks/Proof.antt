@@ -12,7 +12,7 @@ use Rattle.block.proofs.read_blocks.Tie as tie
 
 abbrev Inv-loop : tie.InvT-loop
 Inv-loop image form count b₀ b =
-    (b ≤ count) × (count ≤ 40) × (512 * count ≡ length image) × (earliest (answerAt form image) b (count - b) ≡ inOrder (imageTests form image))
+    (b ≤ count) × (count ≤ 65536) × (512 * count ≡ length image) × (earliest (answerAt form image) b (count - b) ≡ inOrder (imageTests form image))
 
 abbrev μ-loop : tie.MeasureT-loop
 μ-loop image form count b₀ b = count - b

@@ -1,4 +1,4 @@
--- `block::records_before` meets its contract: 25 records and 40 blocks at most.
+-- `block::records_before` meets its contract: small numbers.
 use native.Mathlib.Omega.{arith}
 use native.Mathlib.Nat.{mul-le-mul, le-of-lt}
 use mathlib.Core.Path.{refl}

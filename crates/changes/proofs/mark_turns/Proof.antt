@@ -6,7 +6,7 @@ use native.Mathlib.Omega.{arith}
 use borrow.Author.Needs.{needs}
 use lib.ListN.{length}
 use Rattle.meaning.specs.Document.{Doc}
-use Rattle.document.specs.Lent.{Periods}
+use Rattle.columns.specs.Lent.{Periods}
 use Rattle.marks.specs.Marks.{Marks}
 use Rattle.changes.specs.Turned.{Turned}
 use Rattle.changes.proofs.Turning.{turned-start}

@@ -7,7 +7,7 @@ use lib.ListN.{length, getD}
 use Rattle.meaning.specs.declared.Rule.{Rule}
 use Rattle.meaning.specs.Document.{Doc, numberOf}
 use Rattle.meaning.specs.Select.{selected}
-use Rattle.document.specs.Columns.{limit}
+use Rattle.meaning.specs.Block.{limit}
 use Rattle.groups.specs.Groups.{inGroup}
 use Rattle.day.specs.Row.{UpTo}
 use Rattle.counting.specs.Number.{touches, Below}

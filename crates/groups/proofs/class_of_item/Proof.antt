@@ -1,7 +1,7 @@
 -- `groups::class_of_item` meets its contract: what is left is to find an item below `past-j` with the number of i.
 use native.Mathlib.Omega.{arith}
 use borrow.Author.Needs.{needs}
-use Rattle.document.specs.Meet.{Twins}
+use Rattle.columns.specs.Chains.{Twins}
 use Rattle.groups.specs.Classes.{held}
 use Rattle.groups.proofs.Falling.{Falling, falling-start, falling-hit, falling-less, falling-next, falling-end}
 use Rattle.groups.proofs.class_of_item.Statement.{statement}

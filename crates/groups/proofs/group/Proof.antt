@@ -2,7 +2,7 @@
 use mathlib.Core.List.{[]}
 use native.Mathlib.Omega.{arith}
 use borrow.Author.Needs.{needs}
-use Rattle.document.proofs.Lowering.{twins-of}
+use Rattle.columns.proofs.Twins.{twins-of}
 use Rattle.groups.proofs.Classing.{nested-of, grouped}
 use Rattle.groups.proofs.group.Statement.{statement}
 use Rattle.groups.proofs.group.Tie as tie

@@ -9,22 +9,22 @@ verdict-requires : tie.Need-verdict-requires
 verdict-requires c κs =
     let p = c .before .before .before .before .before .before .before .before .before .before .pre in
     let w = p .2 .1 in
-    (p .0, p .1, (p .2 .0, w .tree, w .values-held, w .periods, p .2 .2, w .checked))
+    (p .0, p .1, (p .2 .0, w .tree, w .values-held, w .periods, p .2 .2, w .judgeable))
 
 returns : tie.Need-returns
 returns c =
     let s = c .before .if1 .taken in
-    λ doc p w rep e. c .verdict .ensures doc p (w .tree) (w .values-held) (w .periods) rep (w .checked) (eq-eqb _ 0 s) e ∙ judged-days doc p _ s
+    λ doc p w rep e. c .verdict .ensures doc p (w .tree) (w .values-held) (w .periods) rep (w .judgeable) (eq-eqb _ 0 s) e ∙ judged-days doc p _ s
 
 verdict-requires-2 : tie.Need-verdict-requires-2
 verdict-requires-2 c κs =
     let p = c .before .before .before .before .before .before .before .before .before .before .pre in
     let w = p .2 .1 in
-    (p .0, ne-eqb _ 0 (c .if1 .left), p .1, (p .2 .0, w .tree, w .values-held, w .periods, w .numbers, p .2 .2, w .checked))
+    (p .0, ne-eqb _ 0 (c .if1 .left), p .1, (p .2 .0, w .tree, w .values-held, w .periods, w .numbers, p .2 .2, w .judgeable))
 
 returns-2 : tie.Need-returns-2
 returns-2 c =
-    λ doc p w rep e. c .verdict2 .ensures doc p (w .tree) (w .values-held) (w .periods) (w .numbers) rep (w .checked) e ∙ judged-windows doc p _ (c .before .if1 .left)
+    λ doc p w rep e. c .verdict2 .ensures doc p (w .tree) (w .values-held) (w .periods) (w .numbers) rep (w .judgeable) e ∙ judged-windows doc p _ (c .before .if1 .left)
 
 pub judge-columns-spec : {M : Type 1} → statement M
 judge-columns-spec = tie.close (tie.spec verdict-requires returns verdict-requires-2 returns-2)

@@ -14,7 +14,7 @@ represent-front-requires : tie.Need-represent-front-requires
 represent-front-requires c κs =
     let p = c .before .before .before .before .before .before .before .before .before .before .before .before .before .before .pre in
     let f = fronts (p .0) (p .1) in
-    (f .kind, f .vkind, f .value, (f .doc, f .whole .values-held, f .whole .checked .few))
+    (f .kind, f .vkind, f .value, (f .doc, f .whole .values-held, f .whole .judgeable .few))
 
 slice-aggregate-put-rules : tie.Need-slice-aggregate-put-rules
 slice-aggregate-put-rules c = search needs

@@ -7,7 +7,7 @@ use borrow.Author.Needs.{needs}
 use lib.ListN.{length}
 use Rattle.meaning.specs.declared.Rule.{Rule}
 use Rattle.meaning.specs.Document.{Doc}
-use Rattle.document.specs.Columns.{limit}
+use Rattle.meaning.specs.Block.{limit}
 use Rattle.prepare.specs.Rows.{inRow}
 use Rattle.day.specs.Ready.{Ready, Stamps}
 use Rattle.day.proofs.Skipping.{sized, next-room, laid, fits, next-of, next-more}

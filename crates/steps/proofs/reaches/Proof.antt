@@ -11,7 +11,7 @@ use mir.Facts.{toZ-ofZ}
 use Rattle.meaning.specs.declared.Rule.{Rule}
 use Rattle.meaning.specs.Document.{Doc}
 use Rattle.meaning.specs.Rules.{isSequenced}
-use Rattle.document.specs.Lent.{Checked}
+use Rattle.columns.specs.Judgeable.{Judgeable}
 use Rattle.prepare.proofs.Filling.{Filled, filled-none, filled-store}
 use Rattle.steps.specs.Reaching.{Ready}
 use Rattle.steps.proofs.Reached.{ReachOf, filled-reaches}
@@ -21,7 +21,7 @@ use Rattle.steps.proofs.reaches.Tie as tie
 abbrev Inv-loop : tie.InvT-loop
 Inv-loop vkind value begin end key group last lower low high out₀ f₀ out f =
     (f ≤ length vkind) × (length out ≡ length out₀)
-    × ((doc : Doc) (r : Rule) → Ready doc r vkind value begin end key group last lower → Checked doc → isSequenced r ≡ false → toZ w32 low ≡ r .low → toZ w32 high ≡ r .high → Filled (ReachOf doc r) f out)
+    × ((doc : Doc) (r : Rule) → Ready doc r vkind value begin end key group last lower → Judgeable doc → isSequenced r ≡ false → toZ w32 low ≡ r .low → toZ w32 high ≡ r .high → Filled (ReachOf doc r) f out)
 
 abbrev μ-loop : tie.MeasureT-loop
 μ-loop vkind value begin end key group last lower low high out₀ f₀ out f = length vkind - f

@@ -4,7 +4,7 @@ use Prim.Native.Nat.{_%_}
 use borrow.Author.Needs.{needs}
 use lib.Signed.{mag}
 use Rattle.numbers.proofs.Callers.{signs}
-use Rattle.document.specs.Columns.{limit}
+use Rattle.meaning.specs.Block.{limit}
 use Rattle.values.proofs.key_of.Statement.{statement}
 use Rattle.values.proofs.key_of.Tie as tie
 

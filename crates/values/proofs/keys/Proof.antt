@@ -6,8 +6,8 @@ use native.Mathlib.Omega.{arith}
 use borrow.Author.Needs.{needs}
 use lib.Signed.{mag}
 use lib.ListN.{length, length-set, length-map}
-use Rattle.document.specs.Columns.{limit}
-use Rattle.document.proofs.Linking.{Keys, keys-none, keys-store, keys-grouped}
+use Rattle.meaning.specs.Block.{limit}
+use Rattle.columns.proofs.Linking.{Keys, keys-none, keys-store, keys-grouped}
 use Rattle.values.proofs.Keying.{key-at}
 use Rattle.values.proofs.keys.Statement.{statement}
 use Rattle.values.proofs.keys.Tie as tie

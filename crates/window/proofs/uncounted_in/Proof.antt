@@ -17,7 +17,7 @@ returns c =
     let k = c .before .if1 .taken in (
       λ doc q r w distinct low high l e from to few.
           let s = sym e ∙ k in
-          answer doc q r w (c .stepped-in .ensures doc q r w (l .periods) (l .stepping s .1) (l .checked) (l .windowed) s from to few),
+          answer doc q r w (c .stepped-in .ensures doc q r w (l .periods) (l .stepping s .1) (l .judgeable) (l .windowed) s from to few),
       (λ i. older (p .8 .low i), λ i. older-token _ (p .9 .low i)),
     )
 
@@ -44,7 +44,7 @@ shared-in-requires c κs =
     let b = c .before in
     let p = c .before .before .before .before .before .before .before .before .before .before .before .before .before .before .before .pre in
     let s = p .1 .6 .sharing (early (p .1 .6) (p .1 .7) (b .if2 .left) (p .0) (b .before .if1 .left)) in
-    (p .1 .0, p .1 .2, s .0, s .1, p .1 .6 .checked .few, p .1 .9)
+    (p .1 .0, p .1 .2, s .0, s .1, p .1 .6 .judgeable .few, p .1 .9)
 
 same-length-2 : tie.Need-same-length-2
 same-length-2 c = search needs

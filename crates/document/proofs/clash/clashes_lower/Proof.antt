@@ -3,7 +3,7 @@ use mathlib.Core.List.{[]}
 use native.Mathlib.Omega.{arith}
 use borrow.Author.Needs.{needs}
 use Rattle.meaning.specs.Document.{columns}
-use Rattle.document.specs.Meet.{Twins}
+use Rattle.columns.specs.Chains.{Twins}
 use Rattle.document.proofs.Lowering.{Lowered, no-item, lowered-start, lowered-item, lowered-hit, lowered-less, lowered-next, lowered-end}
 use Rattle.document.proofs.clash.clashes_lower.Statement.{statement}
 use Rattle.document.proofs.clash.clashes_lower.Tie as tie

@@ -1,6 +1,6 @@
 -- `document::clash::first_clash` meets its contract: the chains that it has built are those that the search asks for.
 use borrow.Author.Needs.{needs}
-use Rattle.document.proofs.Lowering.{twins-of}
+use Rattle.columns.proofs.Twins.{twins-of}
 use Rattle.document.proofs.clash.first_clash.Statement.{statement}
 use Rattle.document.proofs.clash.first_clash.Tie as tie
 

@@ -6,7 +6,7 @@ use borrow.Author.Needs.{needs}
 use lib.ListN.{length}
 use Rattle.meaning.specs.Document.{Doc}
 use Rattle.meaning.specs.Day.{alive}
-use Rattle.document.specs.Lent.{Lends, Periods}
+use Rattle.columns.specs.Lent.{Lends, Periods}
 use Rattle.lists.proofs.Marking.{Below, mark-next, marks-all, alive-at}
 use Rattle.lists.proofs.slices.mark_alive.Statement.{statement}
 use Rattle.lists.proofs.slices.mark_alive.Tie as tie

@@ -5,7 +5,7 @@ use native.Mathlib.Omega.{arith}
 use borrow.Author.Needs.{needs}
 use lib.ListN.{length, length-set}
 use Rattle.meaning.specs.Document.{Doc}
-use Rattle.document.specs.Lent.{Tree}
+use Rattle.columns.specs.Lent.{Tree}
 use Rattle.prepare.proofs.Filling.{Filled, filled-none, filled-store}
 use Rattle.prepare.proofs.Holding.{tree-few, Held, filled-holders}
 use Rattle.prepare.proofs.fields.holders.Statement.{statement}

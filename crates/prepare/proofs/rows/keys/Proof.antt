@@ -9,7 +9,7 @@ use mir.Syntax.{w32}
 use Rattle.meaning.specs.Document.{Doc}
 use Rattle.meaning.specs.Select.{selected}
 use Rattle.numbers.proofs.Signs.{given}
-use Rattle.document.specs.Lent.{Lends}
+use Rattle.columns.specs.Lent.{Lends}
 use Rattle.marks.specs.Marks.{Marks}
 use Rattle.prepare.specs.Holders.{Holders}
 use Rattle.prepare.proofs.Filling.{Filled, filled-none, filled-store}

@@ -6,7 +6,7 @@ use borrow.Author.Needs.{needs}
 use lib.ListN.{length, length-set}
 use Rattle.meaning.specs.Document.{Doc}
 use Rattle.meaning.specs.Select.{selected}
-use Rattle.document.specs.Lent.{Tree}
+use Rattle.columns.specs.Lent.{Tree}
 use Rattle.prepare.proofs.Filling.{Filled, filled-none, filled-store, Marked, filled-marks}
 use Rattle.prepare.proofs.Holding.{tree-few}
 use Rattle.prepare.proofs.select.mark_selected.Statement.{statement}

@@ -15,7 +15,7 @@ mark-changes-requires : tie.Need-mark-changes-requires
 mark-changes-requires c κs =
     let p = c .before .before .before .before .before .before .before .before .before .before .pre in
     let s = p .2 .2 in
-    markable (s .periods) (s .checked) (s .read .room) (s .room) (first-few _ (p .0))
+    markable (s .periods) (s .judgeable) (s .read .room) (s .room) (first-few _ (p .0))
 
 terms-requires : tie.Need-terms-requires
 terms-requires c κs = search needs

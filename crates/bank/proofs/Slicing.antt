@@ -14,11 +14,11 @@ use Rattle.meaning.specs.Nodes.{docOf, readNodes}
 use Rattle.meaning.specs.Day.{alive, slice}
 use Rattle.meaning.specs.Answer.{storing, lentAfter, readSlice, sliceAnswer, sliceLent}
 use Rattle.meaning.proofs.Slices.{accepted-slice}
-use Rattle.document.specs.Columns.{limit}
-use Rattle.document.specs.Lent.{Lends, Periods}
-use Rattle.nodes.specs.declared.Loaded.{Loaded}
-use Rattle.nodes.specs.declared.Loaded.the-variants.{Nodes, Refused as Unloaded}
-use Rattle.nodes.specs.declared.Columns.{Columns}
+use Rattle.meaning.specs.Block.{limit}
+use Rattle.columns.specs.Lent.{Lends, Periods}
+use Rattle.columns.specs.declared.Loaded.{Loaded}
+use Rattle.columns.specs.declared.Loaded.the-variants.{Nodes, Refused as Unloaded}
+use Rattle.columns.specs.declared.Columns.{Columns}
 use Rattle.nodes.specs.Unpacking.{Unpacks}
 use Rattle.nodes.proofs.Held.{refused-image, held-image, size-held, whole-held, front-room}
 use Rattle.lists.specs.Lending.{refusedAs}
@@ -55,7 +55,7 @@ module _ (image : List ℕ) (day : ℕ) (lent : List ℕ) where
       slice-fronts =
           let w = whole-held image u (sym ex ∙ r) in
           let size = size-held image u (sym ex ∙ r) in
-          (omega (arith, size, w .checked .few), front-room _ (w .tree .kind) size, front-room _ (w .periods .begin) size, front-room _ (w .periods .end) size)
+          (omega (arith, size, w .judgeable .few), front-room _ (w .tree .kind) size, front-room _ (w .periods .begin) size, front-room _ (w .periods .end) size)
 
       pub slice-late : 36524 < day → Right (Refused 11 0) lent
       unfolding readSlice
@@ -71,7 +71,7 @@ module _ (image : List ℕ) (day : ℕ) (lent : List ℕ) where
       slice-stored l {y} {out} p q =
           let doc = docOf image in
           let w = whole-held image u (sym ex ∙ r) in
-          let s = accepted-slice doc (w .checked .accepted) day in
+          let s = accepted-slice doc (w .judgeable .accepted) day in
           by-list (rw (accepted, le-leb day 36524 l))
           (p doc (w .tree .kind) (w .periods) ∙ ap (λ (list : List ℕ). storing reading.Accepted list lent) (sym s))
           (q doc (w .tree .kind) (w .periods) ∙ ap (λ (list : List ℕ). lentAfter y list lent) (sym s))

@@ -13,7 +13,7 @@ use lib.Seq.{getD-set-same, getD-set-other}
 use borrow.Author.Count.{below-more}
 use Rattle.meaning.proofs.Basics.{went, clear, never, le-or-lt}
 use Rattle.meaning.proofs.Says.{says}
-use Rattle.document.specs.Chains.{pastLast, keyed, Chained, Grouped}
+use Rattle.columns.specs.Chains.{pastLast, keyed, Chained, Grouped}
 
 -- one number more, of the chain or not
 past-more : (m : ℕ → Bool) (t : ℕ) → m t ≡ true → pastLast m (t + 1) ≡ t + 1

@@ -5,8 +5,8 @@ use numbers::index;
 ghost use mathlib.Core.Path.{_≡_};
 ghost use Prim.Native.Nat.{_<_, _≤_, _%_};
 ghost use lib.ListN.{length};
-ghost use Rattle.document.specs.Columns.{limit};
-ghost use Rattle.document.specs.Chains.{Chained, Grouped};
+ghost use Rattle.meaning.specs.Block.{limit};
+ghost use Rattle.columns.specs.Chains.{Chained, Grouped};
 
 // For each key the last record that has it, and for each record the one before it that has its key; counted from one, 0 for none.
 pub struct Links {

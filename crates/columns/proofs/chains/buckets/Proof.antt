@@ -1,13 +1,13 @@
--- `document::chains::buckets` meets its contract: below i each number has its key.
+-- `columns::chains::buckets` meets its contract: below i each number has its key.
 use Prim.Native.Nat.{_≤_, _-_}
 use mathlib.Core.Path.{_≡_, refl}
 use native.Mathlib.Omega.{arith}
 use borrow.Author.Needs.{needs}
 use lib.ListN.{length, length-set}
-use Rattle.document.specs.Columns.{limit}
-use Rattle.document.proofs.Linking.{Keys, keys-none, keys-store, keys-grouped}
-use Rattle.document.proofs.chains.buckets.Statement.{statement}
-use Rattle.document.proofs.chains.buckets.Tie as tie
+use Rattle.meaning.specs.Block.{limit}
+use Rattle.columns.proofs.Linking.{Keys, keys-none, keys-store, keys-grouped}
+use Rattle.columns.proofs.chains.buckets.Statement.{statement}
+use Rattle.columns.proofs.chains.buckets.Tie as tie
 
 abbrev Inv-loop : tie.InvT-loop
 Inv-loop item key₀ i₀ key i = (i ≤ length item) × (length key ≡ length key₀) × Keys limit item i key

@@ -1,4 +1,4 @@
--- `document::chains::chain` meets its contract: the pass has chained the records below i, and each turn skips or adds record i.
+-- `columns::chains::chain` meets its contract: the pass has chained the records below i, and each turn skips or adds record i.
 use Prim.Native.Nat.{_≤_, _-_}
 use mathlib.Core.Path.{_≡_, refl}
 use mathlib.Core.Logic.{⊎-elim}
@@ -6,10 +6,10 @@ use native.Mathlib.Omega.{arith}
 use borrow.Author.Needs.{needs}
 use lib.ListN.{length}
 use Rattle.meaning.proofs.Says.{says}
-use Rattle.document.specs.Chains.{Chained}
-use Rattle.document.proofs.Linking.{chained-none, chained-skip, chained-store}
-use Rattle.document.proofs.chains.chain.Statement.{statement}
-use Rattle.document.proofs.chains.chain.Tie as tie
+use Rattle.columns.specs.Chains.{Chained}
+use Rattle.columns.proofs.Linking.{chained-none, chained-skip, chained-store}
+use Rattle.columns.proofs.chains.chain.Statement.{statement}
+use Rattle.columns.proofs.chains.chain.Tie as tie
 
 abbrev Inv-loop : tie.InvT-loop
 Inv-loop kind key want last₀ lower₀ i₀ last lower i = (i ≤ length kind) × Chained (length last₀) kind key want i last lower

@@ -5,6 +5,7 @@ use mathlib.Core.Bool.{Bool, true, _&&_, cond}
 use mathlib.Core.List.{List}
 use lib.Dec.{eqb}
 use lib.ListN.{length, getD}
+use Rattle.meaning.specs.Document.{Doc, isItem}
 
 -- one past the last of the numbers below t that pass, 0 where none does
 unfoldable pub pastLast : (ℕ → Bool) → ℕ → ℕ
@@ -29,3 +30,10 @@ pub record Grouped (room : ℕ) (numbers keys : List ℕ) : Type 0 where
   pub key-room : length keys ≡ room
   pub small : (i : ℕ) → i < length numbers → getD keys i 0 < room
   pub same : (i j : ℕ) → i < length numbers → j < length numbers → getD numbers j 0 ≡ getD numbers i 0 → getD keys j 0 ≡ getD keys i 0
+
+-- `twin` chains the items by a key that items of one number share
+pub record Twins (doc : Doc) (twin : List ℕ) : Type 0 where
+  pub room : doc .size ≤ length twin
+  pub key : ℕ → ℕ
+  pub same : (i j : ℕ) → i < doc .size → j < doc .size → doc .item j ≡ doc .item i → key j ≡ key i
+  pub steps : (i : ℕ) → i < doc .size → isItem doc i ≡ true → getD twin i 0 ≡ pastLast (λ j. isItem doc j && eqb (key j) (key i)) i

@@ -8,7 +8,7 @@ use native.Mathlib.Omega.{arith}
 use Rattle.meaning.specs.Walk.{any}
 use Rattle.meaning.proofs.Basics.{went, never, clear, or-r}
 use Rattle.meaning.proofs.Loops.{any-last}
-use Rattle.document.specs.Chains.{pastLast}
+use Rattle.columns.specs.Chains.{pastLast}
 
 -- what `pastLast` points past is below t, and passes
 pub past-low : (m : ℕ → Bool) (t : ℕ) → pastLast m t ≤ t

@@ -9,10 +9,10 @@ use Rattle.meaning.specs.declared.Reading.the-variants as reading
 use Rattle.meaning.specs.Document.{Doc}
 use Rattle.meaning.specs.Nodes.{docOf}
 use Rattle.meaning.specs.Answer.{storing, lentAfter, readChanges, changesOf, changesAnswer, changesLent}
-use Rattle.document.specs.Lent.{Tree, Periods, Whole}
-use Rattle.nodes.specs.declared.Loaded.{Loaded}
-use Rattle.nodes.specs.declared.Loaded.the-variants.{Nodes, Refused as Unloaded}
-use Rattle.nodes.specs.declared.Columns.{Columns}
+use Rattle.columns.specs.Lent.{Tree, Periods, Whole}
+use Rattle.columns.specs.declared.Loaded.{Loaded}
+use Rattle.columns.specs.declared.Loaded.the-variants.{Nodes, Refused as Unloaded}
+use Rattle.columns.specs.declared.Columns.{Columns}
 use Rattle.nodes.specs.Unpacking.{Unpacks}
 use Rattle.nodes.proofs.Held.{refused-image, held-image, size-held, whole-held, front-room}
 use Rattle.lists.specs.Lending.{refusedAs, Fronts, readTurning, turningDays}
@@ -45,7 +45,7 @@ module _ (image rules : List ℕ) (k : ℕ) (lent : List ℕ) where
             doc = docOf image;
             tree = w .tree;
             periods = w .periods;
-            checked = w .checked;
+            judgeable = w .judgeable;
           }
 
       pub changes-stored : {y : Listed} {out : List ℕ}

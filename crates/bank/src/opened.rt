@@ -1,0 +1,108 @@
+// The answers over opened images: what the calls on images, and a report on many rules, ask of columns and an accepted table.
+use columns::Columns;
+use columns::LIMIT;
+use meaning::Listed;
+use meaning::Verdict;
+ghost use mathlib.Core.Path.{_≡_};
+ghost use mathlib.Core.List.{List};
+ghost use Prim.Native.Nat.{ℕ, _-_, _≤_};
+ghost use lib.ListN.{length, take};
+ghost use Rattle.meaning.specs.Block.{limit};
+ghost use Rattle.meaning.specs.Document.{Doc};
+ghost use Rattle.columns.specs.Lent.{Values};
+ghost use Rattle.columns.specs.declared.Loaded.the-variants.{Nodes};
+ghost use Rattle.nodes.specs.Unpacking.{Unpacks};
+ghost use Rattle.values.specs.Represents.{Represents};
+ghost use Rattle.bank.specs.Opening.{Opens, Open};
+ghost use Rattle.bank.specs.Promises.{VerdictPromise, SlicePromise, ChangesPromise};
+
+// The last day of all.
+const LAST: usize = 36524;
+
+// The slice of a day.
+pub fn slice_of(columns: Columns, n: usize, day: usize, out: &mut [u16]) -> Listed
+    requires { ⌜ ((nodes : List ℕ) × Unpacks nodes columns) × (columns .loaded ≡ Nodes n) ⌝ }
+    ensures { λ r. ⌜ ((nodes : List ℕ) → Unpacks nodes columns → SlicePromise nodes day (now (out .entry)) r (now (out .exit))) ⌝ }
+{
+    if LAST < day {
+        return Listed::Refused(11, 0);
+    }
+    let kind = columns.kind;
+    let begin = columns.begin;
+    let end = columns.end;
+    lists::slices::slice_front(n, &kind, &begin, &end, day as u16, out)
+}
+
+// The change days of rule k of the table: 11 where there is no such rule or it is not sequenced, then 12.
+pub fn changes_of(columns: Columns, n: usize, rules: &[u8], k: usize, out: &mut [u16]) -> Listed
+    requires { ⌜ ((nodes : List ℕ) × Opens nodes (now rules) columns) × (columns .loaded ≡ Nodes n) ⌝ }
+    ensures { λ r. ⌜ ((nodes : List ℕ) → Opens nodes (now (rules .entry)) columns → ChangesPromise nodes (now (rules .entry)) k (now (out .entry)) r (now (out .exit))) ⌝ }
+{
+    if rules::count_rules(rules) <= k {
+        return Listed::Refused(11, 0);
+    }
+    let r = rules::rule_at(rules, k);
+    if r.windowed != 0 {
+        return Listed::Refused(11, 0);
+    }
+    let q = rules::referred_rule(rules, k);
+    let kind = columns.kind;
+    let name = columns.name;
+    let parent = columns.parent;
+    let begin = columns.begin;
+    let end = columns.end;
+    lists::turning::changes_front(n, &kind, &name, &parent, &begin, &end, q, r, out)
+}
+
+// A representative for each value in the first n entries of the columns, found once for all rules. Cost: as `values::represent`.
+pub fn represent<'a>(
+    n: usize,
+    kind: &'a [u8],
+    vkind: &'a [u8],
+    value: &'a [i32],
+) -> [u16; LIMIT]
+    requires { ⌜ (n ≤ length (now kind)) × (n ≤ length (now vkind)) × (n ≤ length (now value)) × ((doc : Doc) × Values doc (take (n - 0) (now kind)) (take (n - 0) (now vkind)) (take (n - 0) (now value)) × (doc .size ≤ limit)) ⌝ }
+    ensures { λ r. ⌜ ((doc : Doc) → Values doc (take (n - 0) (now (kind .entry))) (take (n - 0) (now (vkind .entry))) (take (n - 0) (now (value .entry))) → Represents doc r) ⌝ }
+{
+    values::represent(&kind[0..n], &vkind[0..n], &value[0..n])
+}
+
+// The verdict on rule k of the table, over the first n entries of the columns, with a representative for each value: 11 where there is no
+// such rule. Cost: reading the rule, and the rule that it refers to, from the table; then the verdict on days or in windows.
+pub fn verdict_of<'a>(
+    n: usize,
+    kind: &'a [u8],
+    vkind: &'a [u8],
+    name: &'a [u16],
+    parent: &'a [u16],
+    begin: &'a [u16],
+    end: &'a [u16],
+    value: &'a [i32],
+    item: &'a [u32],
+    rep: &[u16],
+    rules: &[u8],
+    k: usize,
+) -> Verdict
+    requires { ⌜ ((nodes : List ℕ) × Open nodes (now rules) n (now kind) (now vkind) (now name) (now parent) (now begin) (now end) (now value) (now item) (now rep)) ⌝ }
+    ensures { λ x. ⌜ ((nodes : List ℕ) → Open nodes (now (rules .entry)) n (now (kind .entry)) (now (vkind .entry)) (now (name .entry)) (now (parent .entry)) (now (begin .entry)) (now (end .entry)) (now (value .entry)) (now (item .entry)) (now (rep .entry)) → VerdictPromise nodes (now (rules .entry)) k x) ⌝ }
+{
+    if rules::count_rules(rules) <= k {
+        return Verdict::Refused(11, 0);
+    }
+    let r = rules::rule_at(rules, k);
+    let q = rules::referred_rule(rules, k);
+    judging::judge_front(
+        n,
+        kind,
+        vkind,
+        name,
+        parent,
+        begin,
+        end,
+        value,
+        item,
+        rep,
+        q,
+        r,
+    )
+}
