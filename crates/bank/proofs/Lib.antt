@@ -1,4 +1,7 @@
 -- The laws behind the public calls, and the theorems about them.
-pub mod Asked
+pub mod Opens
+pub mod Slicing
+pub mod Turning
+pub mod Judged
 pub mod Calls
 pub mod Theorems

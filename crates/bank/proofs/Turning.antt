@@ -1,60 +1,106 @@
--- The ways out of `change_days`: the node image's refusal, and what its document and the rule table give.
+-- The ways out of `change_days`: a refusal of either image, no such rule, a rule that is not sequenced, and the list.
 use mathlib.Core.Path.{_≡_, refl, sym, ap, _∙_}
+use mathlib.Core.Bool.{true, false}
 use mathlib.Core.List.{List}
-use Prim.Native.Nat.{ℕ, _-_}
-use lib.ListN.{take}
+use Prim.Native.Nat.{ℕ, _-_, _≤_, _<_}
+use native.Mathlib.Omega.{arith}
+use lib.Dec.{eqb}
+use lib.ListN.{length, take}
+use borrow.Author.Tests.{lt-ltb, le-ltb, eq-eqb, ne-eqb}
+use Rattle.meaning.specs.declared.Rule.{Rule}
 use Rattle.meaning.specs.declared.Listed.{Listed}
 use Rattle.meaning.specs.declared.Listed.the-variants.{Refused}
 use Rattle.meaning.specs.declared.Reading.the-variants as reading
 use Rattle.meaning.specs.Document.{Doc}
-use Rattle.meaning.specs.Nodes.{docOf}
-use Rattle.meaning.specs.Answer.{storing, lentAfter, readChanges, changesOf, changesAnswer, changesLent}
-use Rattle.columns.specs.Lent.{Tree, Periods, Whole}
-use Rattle.columns.specs.declared.Loaded.{Loaded}
+use Rattle.meaning.specs.Nodes.{docOf, readNodes}
+use Rattle.meaning.specs.Rules.{isReference, ruleAt, rulesOf, readRules}
+use Rattle.meaning.specs.Day.{changeDays}
+use Rattle.meaning.specs.Answer.{referredBy, storing, lentAfter, readChanges, changesOf, changesAnswer, changesLent}
+use Rattle.columns.specs.Lent.{Tree, Periods}
 use Rattle.columns.specs.declared.Loaded.the-variants.{Nodes, Refused as Unloaded}
 use Rattle.columns.specs.declared.Columns.{Columns}
-use Rattle.nodes.specs.Unpacking.{Unpacks}
-use Rattle.nodes.proofs.Held.{refused-image, held-image, size-held, whole-held, front-room}
-use Rattle.lists.specs.Lending.{refusedAs, Fronts, readTurning, turningDays}
+use Rattle.rules.specs.Table.{Table, referredOr}
+use Rattle.rules.proofs.Tables.{refers-to}
+use Rattle.lists.specs.Lending.{Turnable}
+use Rattle.bank.specs.Promises.{ChangesPromise}
+use Rattle.bank.specs.Opening.{Opens}
+use Rattle.bank.proofs.Opens.{still, refused-both, accepted-both, open-fronts}
 
-module _ (image rules : List ℕ) (k : ℕ) (lent : List ℕ) where
-  -- the answer and the list lent, as the meaning has them
-  abbrev pub Right : Listed → List ℕ → Type 0
-  Right y out = (y ≡ changesAnswer image rules k lent) × (out ≡ changesLent image rules k lent)
+module _ (nodes rules : List ℕ) (k : ℕ) (lent : List ℕ) where
+  abbrev Right : Listed → List ℕ → Type 0
+  Right = ChangesPromise nodes rules k lent
 
-  module _ {c : Columns} (u : Unpacks image c) {x : Loaded} (ex : x ≡ c .loaded) where
-    pub changes-refused : {a b : ℕ} → x ≡ Unloaded a b → {y : Listed} → y ≡ refusedAs x → Right y lent
-    unfolding changesAnswer changesLent readChanges storing
-    changes-refused r {y} e =
-        let y-is : y ≡ Refused _ _ = e ∙ ap refusedAs r in
-        rw (y-is, refused-image image (u .answer) (sym ex ∙ r)) (refl, refl)
+  -- refused while reading
+  by-reading : {a b : ℕ} → readChanges nodes rules k ≡ reading.Refused a b → Right (Refused a b) lent
+  unfolding changesAnswer changesLent storing
+  by-reading e = rw e (refl, refl)
 
-    module _ {n : ℕ} (r : x ≡ Nodes n) where
-      w : Whole (docOf image) (take (n - 0) (c .kind)) (take (n - 0) (c .vkind)) (take (n - 0) (c .name)) (take (n - 0) (c .parent)) (take (n - 0) (c .begin)) (take (n - 0) (c .end)) (take (n - 0) (c .value)) (take (n - 0) (c .item))
-      w = whole-held image u (sym ex ∙ r)
+  module _ {c : Columns} (o : Opens nodes rules c) where
+    pub changes-refused : {a b : ℕ} → c .loaded ≡ Unloaded a b → Right (Refused a b) lent
+    unfolding readChanges
+    changes-refused r = by-reading (still (readNodes nodes) (readRules rules) _ (refused-both rules o r))
 
-      pub changes-fronts : Fronts n (c .kind) (c .name) (c .parent) (c .begin) (c .end)
-      changes-fronts =
-          let size = size-held image u (sym ex ∙ r) in
-          record {
-            kind = front-room _ (w .tree .kind) size;
-            name = front-room _ (w .tree .name) size;
-            parent = front-room _ (w .tree .parent) size;
-            begin = front-room _ (w .periods .begin) size;
-            end = front-room _ (w .periods .end) size;
-            doc = docOf image;
-            tree = w .tree;
-            periods = w .periods;
-            judgeable = w .judgeable;
-          }
+    module _ {n : ℕ} (r : c .loaded ≡ Nodes n) {m : ℕ} (t : Table rules m) where
+      abbrev ok : (readNodes nodes ≡ reading.Accepted) × (readRules rules ≡ reading.Accepted)
+      ok = accepted-both rules o r
 
-      pub changes-stored : {y : Listed} {out : List ℕ}
-          → ((doc : Doc) → Tree doc (take (n - 0) (c .kind)) (take (n - 0) (c .name)) (take (n - 0) (c .parent)) → Periods doc (take (n - 0) (c .begin)) (take (n - 0) (c .end))
-          → y ≡ storing (readTurning rules k) (turningDays doc rules k) lent)
-          → ((doc : Doc) → Tree doc (take (n - 0) (c .kind)) (take (n - 0) (c .name)) (take (n - 0) (c .parent)) → Periods doc (take (n - 0) (c .begin)) (take (n - 0) (c .end))
-          → out ≡ lentAfter y (turningDays doc rules k) lent)
-          → Right y out
-      unfolding changesAnswer changesLent changesOf readChanges
-      changes-stored {y} {out} p q =
-          let a : y ≡ storing (readTurning rules k) (turningDays (docOf image) rules k) lent = p (docOf image) (w .tree) (w .periods) in
-          rw (held-image image (u .answer) (sym ex ∙ r) .accepted) (a, q (docOf image) (w .tree) (w .periods) ∙ ap (λ (z : Listed). lentAfter z (turningDays (docOf image) rules k) lent) a)
+      pub changes-none : m ≤ k → Right (Refused 11 0) lent
+      unfolding readChanges
+      changes-none h = by-reading (rw (ok .0, ok .1, le-ltb k (length (rulesOf rules)) (omega (arith, t .count))))
+
+      module _ (h : k < m) where
+        pub rule-here : k < length (rulesOf rules)
+        rule-here = omega (arith, t .count)
+
+        module _ {a : Rule} (ea : a ≡ ruleAt (rulesOf rules) k) where
+          -- its windowed byte, as the table has it
+          windowed : a .windowed ≡ ruleAt (rulesOf rules) k .windowed
+          windowed = ap (λ (x : Rule). x .windowed) ea
+
+          pub changes-windowed : (a .windowed ≡ 0 → ⊥) → Right (Refused 11 0) lent
+          unfolding readChanges
+          changes-windowed w =
+              let s : eqb (ruleAt (rulesOf rules) k .windowed) 0 ≡ false = ne-eqb _ 0 (λ e. w (windowed ∙ e)) in
+              by-reading (rw (ok .0, ok .1, lt-ltb k (length (rulesOf rules)) rule-here, s))
+
+          pub turnable : Turnable n (c .kind) (c .name) (c .parent) (c .begin) (c .end)
+          turnable =
+              let f = open-fronts rules o r in
+              record {
+                kind = f .kind;
+                name = f .name;
+                parent = f .parent;
+                begin = f .begin;
+                end = f .end;
+                doc = f .doc;
+                tree = f .whole .tree;
+                periods = f .whole .periods;
+                judgeable = f .whole .judgeable;
+              }
+
+          module _ (s : a .windowed ≡ 0) {q : Rule} (eq : q ≡ referredOr (rulesOf rules) k) where
+            read : readChanges nodes rules k ≡ reading.Accepted
+            unfolding readChanges
+            read =
+                let w : eqb (ruleAt (rulesOf rules) k .windowed) 0 ≡ true = eq-eqb _ 0 (sym windowed ∙ s) in
+                rw (ok .0, ok .1, lt-ltb k (length (rulesOf rules)) rule-here, w)
+
+            -- a reference refers to q
+            same : isReference a ≡ true → referredBy (rulesOf rules) k ≡ q
+            same e = sym (refers-to (rulesOf rules) k eq (ap isReference (sym ea) ∙ e))
+
+            -- what was stored for the columns' document is stored for the image's
+            pub changes-stored : {y : Listed} {out : List ℕ}
+                → ((doc : Doc) (p : Rule) → Tree doc (take (n - 0) (c .kind)) (take (n - 0) (c .name)) (take (n - 0) (c .parent)) → Periods doc (take (n - 0) (c .begin)) (take (n - 0) (c .end))
+                → (isReference a ≡ true → p ≡ q) → y ≡ storing reading.Accepted (changeDays doc p a) lent)
+                → ((doc : Doc) (p : Rule) → Tree doc (take (n - 0) (c .kind)) (take (n - 0) (c .name)) (take (n - 0) (c .parent)) → Periods doc (take (n - 0) (c .begin)) (take (n - 0) (c .end))
+                → (isReference a ≡ true → p ≡ q) → out ≡ lentAfter y (changeDays doc p a) lent)
+                → Right y out
+            unfolding changesAnswer changesLent changesOf
+            changes-stored {y} {out} p l =
+                let f = open-fronts rules o r in
+                let doc = docOf nodes in
+                let days : changeDays doc (referredBy (rulesOf rules) k) a ≡ changeDays doc (referredBy (rulesOf rules) k) (ruleAt (rulesOf rules) k) = ap (changeDays doc (referredBy (rulesOf rules) k)) ea in
+                let answer = p doc (referredBy (rulesOf rules) k) (f .whole .tree) (f .whole .periods) same ∙ ap (λ (x : List ℕ). storing reading.Accepted x lent) days in
+                let left = l doc (referredBy (rulesOf rules) k) (f .whole .tree) (f .whole .periods) same ∙ ap (λ (x : List ℕ). lentAfter y x lent) days in
+                rw (read, sym answer) (refl, left)

@@ -33,19 +33,19 @@ pub fn slice_of(columns: Columns, n: usize, day: usize, out: &mut [u16]) -> List
     lists::slices::slice_front(n, &kind, &begin, &end, day as u16, out)
 }
 
-// The change days of rule k of the table: 11 where there is no such rule or it is not sequenced, then 12.
-pub fn changes_of(columns: Columns, n: usize, rules: &[u8], k: usize, out: &mut [u16]) -> Listed
+// The change days of a rule of the table: 11 where there is no such rule or it is not sequenced, then 12.
+pub fn changes_of(columns: Columns, n: usize, rules: &[u8], rule: usize, out: &mut [u16]) -> Listed
     requires { ⌜ ((nodes : List ℕ) × Opens nodes (now rules) columns) × (columns .loaded ≡ Nodes n) ⌝ }
-    ensures { λ r. ⌜ ((nodes : List ℕ) → Opens nodes (now (rules .entry)) columns → ChangesPromise nodes (now (rules .entry)) k (now (out .entry)) r (now (out .exit))) ⌝ }
+    ensures { λ r. ⌜ ((nodes : List ℕ) → Opens nodes (now (rules .entry)) columns → ChangesPromise nodes (now (rules .entry)) rule (now (out .entry)) r (now (out .exit))) ⌝ }
 {
-    if rules::count_rules(rules) <= k {
+    if rules::count_rules(rules) <= rule {
         return Listed::Refused(11, 0);
     }
-    let r = rules::rule_at(rules, k);
+    let r = rules::rule_at(rules, rule);
     if r.windowed != 0 {
         return Listed::Refused(11, 0);
     }
-    let q = rules::referred_rule(rules, k);
+    let q = rules::referred_rule(rules, rule);
     let kind = columns.kind;
     let name = columns.name;
     let parent = columns.parent;
@@ -55,12 +55,7 @@ pub fn changes_of(columns: Columns, n: usize, rules: &[u8], k: usize, out: &mut 
 }
 
 // A representative for each value in the first n entries of the columns, found once for all rules. Cost: as `values::represent`.
-pub fn represent<'a>(
-    n: usize,
-    kind: &'a [u8],
-    vkind: &'a [u8],
-    value: &'a [i32],
-) -> [u16; LIMIT]
+pub fn represent<'a>(n: usize, kind: &'a [u8], vkind: &'a [u8], value: &'a [i32]) -> [u16; LIMIT]
     requires { ⌜ (n ≤ length (now kind)) × (n ≤ length (now vkind)) × (n ≤ length (now value)) × ((doc : Doc) × Values doc (take (n - 0) (now kind)) (take (n - 0) (now vkind)) (take (n - 0) (now value)) × (doc .size ≤ limit)) ⌝ }
     ensures { λ r. ⌜ ((doc : Doc) → Values doc (take (n - 0) (now (kind .entry))) (take (n - 0) (now (vkind .entry))) (take (n - 0) (now (value .entry))) → Represents doc r) ⌝ }
 {

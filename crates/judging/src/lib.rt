@@ -1,20 +1,16 @@
 // The verdict on one rule over the columns of a document: on days or in windows, as the rule says.
-use columns::LIMIT;
 use meaning::Rule;
 use meaning::Verdict;
 ghost use mathlib.Core.Path.{_≡_};
 ghost use mathlib.Core.Bool.{true, _||_};
-ghost use Prim.Native.Nat.{_-_, _<_, _≤_};
-ghost use lib.ListN.{length, take};
+ghost use Prim.Native.Nat.{_-_};
+ghost use lib.ListN.{take};
 ghost use Rattle.meaning.specs.declared.Rule.{Rule};
-ghost use Rattle.meaning.specs.declared.Reading.the-variants.{Accepted};
 ghost use Rattle.meaning.specs.Document.{Doc};
-ghost use Rattle.meaning.specs.Rules.{isKey, isUnique, isReference, ruleFields, ruleAt, rulesOf, readRules};
-ghost use Rattle.meaning.specs.Answer.{referredBy, judged};
-ghost use Rattle.meaning.specs.Block.{limit};
-ghost use Rattle.columns.specs.Lent.{Values, Whole};
+ghost use Rattle.meaning.specs.Rules.{isKey, isUnique, isReference, ruleFields};
+ghost use Rattle.meaning.specs.Answer.{judged};
 ghost use Rattle.values.specs.Represents.{Represents};
-ghost use Rattle.columns.specs.Lent.{Fronts};
+ghost use Rattle.columns.specs.Lent.{Whole, Fronts};
 
 // The verdict on rule r, which refers to q if it is a reference.
 fn judge_columns(

@@ -1,22 +1,11 @@
 -- What the two lists ask for: marking the versions of a day, columns of kinds and periods of one length and a mark for each record; change days, five columns of a document.
 use mathlib.Core.Path.{_≡_}
 use mathlib.Core.List.{List}
-use mathlib.Core.Bool.{_&&_}
 use Prim.Native.Nat.{ℕ, _-_, _≤_}
-use lib.Dec.{ltb}
 use lib.ListN.{length, take}
-use Rattle.meaning.specs.declared.Reading.{Reading}
-use Rattle.meaning.specs.declared.Listed.{Listed}
-use Rattle.meaning.specs.declared.Listed.the-variants.{Stored, Refused}
-use Rattle.meaning.specs.Order.{need, andThen}
 use Rattle.meaning.specs.Document.{Doc}
-use Rattle.meaning.specs.Rules.{isSequenced, ruleAt, rulesOf, readRules}
-use Rattle.meaning.specs.Day.{changeDays}
-use Rattle.meaning.specs.Answer.{referredBy}
 use Rattle.columns.specs.Lent.{Tree, Periods}
 use Rattle.columns.specs.Judgeable.{Judgeable}
-use Rattle.columns.specs.declared.Loaded.{Loaded}
-use Rattle.columns.specs.declared.Loaded.the-variants.{Nodes, Refused as Unloaded}
 
 pub record Living (kinds begins ends : List ℕ) (room : ℕ) : Type 0 where
   pub begin : length begins ≡ length kinds

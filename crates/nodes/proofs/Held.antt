@@ -34,7 +34,7 @@ fair : Fair nodeForm
 fair = record { some = omega arith; room = omega arith; each-small = omega arith; most-small = omega arith; base-small = omega arith }
 
 -- an answer is a reading's refusal, or how many records were read
-module _ (y : Reading) {m : ℕ} {x : Loaded} (ex : tellLoaded x ≡ tellLoaded (loaded y m)) where
+module _ (y : Reading) (m : ℕ) {x : Loaded} (ex : tellLoaded x ≡ tellLoaded (loaded y m)) where
   same : x ≡ loaded y m
   same = loaded-unique x (loaded y m) ex
 
@@ -69,10 +69,10 @@ module _ (image : List ℕ) where
   -- the image's refusal, or how many records it has
   module _ {x : Loaded} (ex : tellLoaded x ≡ tellLoaded (loaded (readNodes image) (length (nodesOf image)))) where
     pub refused-image : {k p : ℕ} → x ≡ Unloaded k p → readNodes image ≡ Refused k p
-    refused-image r = told-refused (readNodes image) ex r
+    refused-image r = told-refused (readNodes image) (length (nodesOf image)) ex r
 
     pub held-image : {n : ℕ} → x ≡ Nodes n → Held image n
-    held-image r = let t = told-nodes (readNodes image) ex r in record { accepted = t .0; count = t .1; few = omega (arith, t .1, nodes-few (t .0)) }
+    held-image r = let t = told-nodes (readNodes image) (length (nodesOf image)) ex r in record { accepted = t .0; count = t .1; few = omega (arith, t .1, nodes-few (t .0)) }
 
   -- accepted: the columns hold its document
   module _ {c : Columns} (u : Unpacks image c) {n : ℕ} (r : c .loaded ≡ Nodes n) where

@@ -1,7 +1,7 @@
 // A node image unpacked into columns: refusals 1 to 10, and the decoded document where it is accepted.
 use columns::Columns;
-use columns::Loaded;
 use columns::LIMIT;
+use columns::Loaded;
 use meaning::Reading;
 ghost use mathlib.Core.Path.{_≡_};
 ghost use lib.ListN.{length, take};

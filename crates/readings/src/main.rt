@@ -1,10 +1,10 @@
 // Reads `nodes.blk` and `rules.blk` of its folder and prints one line: accepted, with the counts of records and rules; refused, with number
 // and place; or unreadable, with the file's name. A test program for the two readers.
 use columns::LIMIT;
+use columns::Loaded;
 use files::Got;
 use libc::STDOUT_FILENO;
 use meaning::Reading;
-use columns::Loaded;
 
 // The largest good files, and one byte more, so that a longer file is refused by its length.
 const NODES_ROOM: usize = 20481;

@@ -1,4 +1,3 @@
 -- The laws behind the report.
-pub mod Asking
 pub mod Texts
 pub mod Theorems

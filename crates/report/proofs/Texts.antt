@@ -6,13 +6,14 @@ use native.Mathlib.Numerals.{add-one}
 use native.Mathlib.Omega.{arith}
 use lib.ListN.{length}
 use Rattle.meaning.specs.declared.Verdict.{Verdict}
-use Rattle.meaning.specs.declared.Reading.the-variants as reading
-use Rattle.meaning.specs.Rules.{rulesOf, readRules}
+use Rattle.meaning.specs.Rules.{rulesOf}
 use Rattle.meaning.specs.Answer.{verdict}
 use Rattle.columns.specs.declared.Loaded.the-variants.{Nodes, Refused as Unloaded}
 use Rattle.columns.specs.declared.Columns.{Columns}
-use Rattle.nodes.specs.Unpacking.{Unpacks}
-use Rattle.nodes.proofs.Held.{refused-image, held-image}
+use Rattle.bank.specs.Opening.{Opens}
+use Rattle.bank.specs.Promises.{VerdictPromise}
+use Rattle.bank.proofs.Opens.{refused-both, accepted-both}
+use Rattle.bank.proofs.Theorems.{verdict-unique}
 use Rattle.spelling.specs.Puts.{Puts}
 use Rattle.spelling.proofs.Pieces.{puts-none, puts-as, puts-then}
 use Rattle.spelling.specs.Lines.{ruleLine, header, refusedLine}
@@ -39,16 +40,15 @@ module _ (found : ℕ → Verdict) where
   pub rules-all : {old now : List ℕ} {at to : ℕ} {k n : ℕ} → Puts old at (ruleLines found 0 k) now to → k ≤ n → n ≤ k → Puts old at (ruleLines found 0 n) now to
   rules-all {k = k} {n} p a b = let e : k ≡ n = omega arith in puts-as p (ap (ruleLines found 0) e)
 
-module _ {nodes : List ℕ} (rules : List ℕ) {c : Columns} (u : Unpacks nodes c) where
-  pub refused-nodes : {a b : ℕ} → c .loaded ≡ Unloaded a b → refusedLine a b ≡ reportOf nodes rules
+-- what the calls promise of each rule is what the report says of it
+pub promised : (nodes rules : List ℕ) (k : ℕ) {x : Verdict} → VerdictPromise nodes rules k x → x ≡ verdict nodes rules k
+promised nodes rules k {x} p = verdict-unique nodes rules k x (verdict nodes rules k) p refl
+
+module _ {nodes : List ℕ} (rules : List ℕ) {c : Columns} (o : Opens nodes rules c) where
+  pub refused-images : {a b : ℕ} → c .loaded ≡ Unloaded a b → refusedLine a b ≡ reportOf nodes rules
   unfolding reportOf lineOr
-  refused-nodes e = rw (refused-image nodes (u .answer) e) refl
+  refused-images e = rw (refused-both rules o e) refl
 
-  module _ {n : ℕ} (e : c .loaded ≡ Nodes n) where
-    pub refused-rules : {a b : ℕ} → readRules rules ≡ reading.Refused a b → refusedLine a b ≡ reportOf nodes rules
-    unfolding reportOf lineOr
-    refused-rules t = rw (held-image nodes (u .answer) e .accepted, t) refl
-
-    pub accepted-both : readRules rules ≡ reading.Accepted → header ++ ruleLines (verdict nodes rules) 0 (length (rulesOf rules)) ≡ reportOf nodes rules
-    unfolding reportOf lineOr
-    accepted-both t = rw (held-image nodes (u .answer) e .accepted, t) refl
+  pub accepted-images : {n : ℕ} → c .loaded ≡ Nodes n → header ++ ruleLines (verdict nodes rules) 0 (length (rulesOf rules)) ≡ reportOf nodes rules
+  unfolding reportOf lineOr
+  accepted-images e = let ok = accepted-both rules o e in rw (ok .0, ok .1) refl

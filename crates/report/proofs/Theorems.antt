@@ -13,11 +13,11 @@ use Rattle.meaning.specs.Order.{need, andThen}
 use Rattle.meaning.specs.Nodes.{readNodes}
 use Rattle.meaning.specs.Rules.{rulesOf, readRules}
 use Rattle.meaning.specs.Answer.{readVerdict, verdict}
-use Rattle.meaning.proofs.Orders.{contrary}
 use Rattle.meaning.proofs.Asking.{verdict-quick}
 use Rattle.meaning.proofs.ImageBytes.{bankNodes, bankRules}
 use Rattle.meaning.proofs.Opened.{opened}
 use Rattle.rules.proofs.Tables.{accepted-few}
+use Rattle.bank.proofs.Opens.{still}
 use Rattle.spelling.specs.Spelled.{word, digitsOf, decimal}
 use Rattle.spelling.specs.Puts.{Puts}
 use Rattle.spelling.proofs.Pieces.{puts-whole, puts-unique}
@@ -29,12 +29,6 @@ lines-room : (found : ℕ → Verdict) (k n : ℕ) → length (ruleLines found k
 unfolding ruleLines
 lines-room found k zero = omega arith
 lines-room found k (suc n) = omega (arith, length-append (ruleLine k (found k)) (ruleLines found (suc k) n), line-room k (found k), lines-room found (suc k) n)
-
--- a refusal stays one, whatever is read after it
-still : {a b : ℕ} (x y z : Reading) → andThen x y ≡ Refused a b → andThen x (andThen y z) ≡ Refused a b
-still (Refused a b) y z e = e
-still Accepted (Refused a b) z e = e
-still Accepted Accepted z e = absurd (contrary refl e)
 
 module _ (nodes rules : List ℕ) where
   -- No report is longer than 9,031 bytes: the header's 31, and 90 for each of a hundred rules.

@@ -1,86 +1,114 @@
--- `lists::turning::changes_in_table` meets its contract: a way out for each refusal, and the list.
-use mathlib.Core.Path.{refl}
-use Rattle.rules.proofs.Tables.{accepted-row, fields-of, fields-referred}
-use Rattle.rules.proofs.Promised.{read-as}
-use Rattle.lists.proofs.Tabling.{table-refused, table-none, table-here, table-windowed, table-listed, table-lent}
+-- `bank::opened::changes_of` meets its contract: no such rule, a rule that is not sequenced, and the list.
+use mathlib.Core.Path.{sym}
 use borrow.Author.Needs.{needs}
-use Rattle.lists.proofs.turning.changes_in_table.Statement.{statement}
-use Rattle.lists.proofs.turning.changes_in_table.Tie as tie
+use Rattle.rules.proofs.Tables.{accepted-row, fields-of, fields-referred}
+use Rattle.bank.proofs.Opens.{accepted-both}
+use Rattle.bank.proofs.Turning.{changes-none, changes-windowed, changes-stored, rule-here, turnable}
+use Rattle.bank.proofs.opened.changes_of.Statement.{statement}
+use Rattle.bank.proofs.opened.changes_of.Tie as tie
 
-read-rules-requires : tie.Need-read-rules-requires
-read-rules-requires c κs = search needs
+-- from the count of the rules back to the start
+abbrev start : tie.After-count-rules → tie.Start
+start c = c .before .before .before
 
-enum-known-read : tie.Need-enum-known-read
-enum-known-read c = search needs
+-- from a sequenced rule back to the rule
+abbrev sequenced : tie.Else2 → tie.After-rule-at
+sequenced c = c .before .before
 
-returns : tie.Need-returns
-returns c =
-    let a = c .before .before .before .before .before .before .before .before .before .before .before .args in
-    (λ doc t w. table-refused (a .rules .now) (a .k) (read-as (a .rules .now) (c .before .read .given .1) (c .before .before .before .read-rules .ensures)) _ _, λ doc t w. refl)
+-- from the copied columns back to the rule that was referred to, and to the start
+abbrev copied : tie.After-end → tie.After-referred-rule
+copied c = c .before .before .before .before .before
 
-enum-told : tie.Need-enum-told
-enum-told c = search needs
+abbrev start-copied : tie.After-end → tie.Start
+start-copied c = start (sequenced (copied c .before) .before .before)
+
+-- from the columns that are lent back to the rule that was referred to
+abbrev referred : tie.After-changes-front-arg → tie.After-referred-rule
+referred c = copied (c .before .before .before .before .before .before)
 
 count-rules-requires : tie.Need-count-rules-requires
-count-rules-requires c κs = read-as _ (c .enum-told .given .1) (c .before .before .read-rules .ensures)
+count-rules-requires c κs = let p = c .before .before .pre in accepted-both _ (p .0 .1) (p .1) .1
 
-returns-2 : tie.Need-returns-2
-returns-2 c =
-    let a = c .before .before .before .before .before .before .before .before .before .before .before .before .args in
-    let ok = read-as (a .rules .now) (c .before .before .enum-told .given .1) (c .before .before .before .before .read-rules .ensures) in
-    (λ doc t w. table-none (a .rules .now) (a .k) ok (c .before .count-rules .ensures) (c .if1 .taken) _ _, λ doc t w. refl)
+returns : tie.Need-returns
+returns c nodes o = let n = c .before in changes-none nodes _ _ _ o (start n .pre .1) (n .count-rules .ensures) (c .if1 .taken)
 
 rule-at-requires : tie.Need-rule-at-requires
 rule-at-requires c κs =
-    let a = c .before .before .before .before .before .before .before .before .before .before .before .before .args in
-    let ok = read-as (a .rules .now) (c .before .before .enum-told .given .1) (c .before .before .before .before .read-rules .ensures) in
-    accepted-row (a .rules .now) ok (a .k) (table-here (a .rules .now) (a .k) ok (c .before .count-rules .ensures) (c .if1 .left))
+    let n = c .before in
+    let s = start n in
+    let o = s .pre .0 in
+    accepted-row _ (accepted-both _ (o .1) (s .pre .1) .1) _ (rule-here (o .0) _ (s .args .rule) (s .args .out .now) (o .1) (s .pre .1) (n .count-rules .ensures) (c .if1 .left))
 
-returns-3 : tie.Need-returns-3
-returns-3 c =
-    let a = c .before .before .before .before .before .before .before .before .before .before .before .before .before .before .before .args in
-    let ok = read-as (a .rules .now) (c .before .before .before .before .before .enum-told .given .1) (c .before .before .before .before .before .before .before .read-rules .ensures) in
-    (λ doc t w. table-windowed (a .rules .now) (a .k) ok (c .before .before .before .before .count-rules .ensures) (c .before .before .before .if1 .left) (c .before .before .rule-at .ensures) (c .if2 .taken) _ _, λ doc t w. refl)
+returns-2 : tie.Need-returns-2
+returns-2 c nodes o =
+    let r = c .before .before in
+    let n = r .before .before in
+    changes-windowed nodes _ _ _ o (start n .pre .1) (n .count-rules .ensures) (r .before .if1 .left) (r .rule-at .ensures) (c .if2 .taken)
 
 referred-rule-requires : tie.Need-referred-rule-requires
 referred-rule-requires c κs =
-    let a = c .before .before .before .before .before .before .before .before .before .before .before .before .before .before .before .args in
-    let ok = read-as (a .rules .now) (c .before .before .before .before .before .enum-told .given .1) (c .before .before .before .before .before .before .before .read-rules .ensures) in
-    (ok, table-here (a .rules .now) (a .k) ok (c .before .before .before .before .count-rules .ensures) (c .before .before .before .if1 .left))
+    let r = sequenced c in
+    let n = r .before .before in
+    let s = start n in
+    let o = s .pre .0 in
+    (accepted-both _ (o .1) (s .pre .1) .1, rule-here (o .0) _ (s .args .rule) (s .args .out .now) (o .1) (s .pre .1) (n .count-rules .ensures) (r .before .if1 .left))
+
+slice-aggregate-changes-front : tie.Need-slice-aggregate-changes-front
+slice-aggregate-changes-front c = search (needs, start-copied (c .before) .good)
+
+slice-aggregate-changes-front-2 : tie.Need-slice-aggregate-changes-front-2
+slice-aggregate-changes-front-2 c = search (needs, start-copied (c .before .before) .good)
+
+slice-aggregate-changes-front-3 : tie.Need-slice-aggregate-changes-front-3
+slice-aggregate-changes-front-3 c = search (needs, start-copied (c .before .before .before) .good)
+
+slice-aggregate-changes-front-4 : tie.Need-slice-aggregate-changes-front-4
+slice-aggregate-changes-front-4 c = search (needs, start-copied (c .before .before .before .before) .good)
+
+slice-aggregate-changes-front-5 : tie.Need-slice-aggregate-changes-front-5
+slice-aggregate-changes-front-5 c = search (needs, start-copied (c .before .before .before .before .before) .good)
 
 changes-front-requires : tie.Need-changes-front-requires
 changes-front-requires c κs =
-    let a = c .before .before .before .before .before .before .before .before .before .before .before .before .before .before .before .before .before .args in
-    let ok = read-as (a .rules .now) (c .before .before .before .before .before .before .before .enum-told .given .1) (c .before .before .before .before .before .before .before .before .before .read-rules .ensures) in
-    let here = table-here (a .rules .now) (a .k) ok (c .before .before .before .before .before .before .count-rules .ensures) (c .before .before .before .before .before .if1 .left) in
-    (fields-of (a .rules .now) ok (a .k) here (c .before .before .before .before .rule-at .ensures), λ e. fields-referred (a .rules .now) ok (a .k) here (c .before .before .before .before .rule-at .ensures) (c .before .referred-rule .ensures) e .0, c .before .before .before .before .before .before .before .before .before .before .before .before .before .before .before .before .before .pre)
+    let q = referred c in
+    let r = sequenced (q .before) in
+    let n = r .before .before in
+    let s = start n in
+    let o = s .pre .0 in
+    let ok = accepted-both _ (o .1) (s .pre .1) .1 in
+    let here = rule-here (o .0) _ (s .args .rule) (s .args .out .now) (o .1) (s .pre .1) (n .count-rules .ensures) (r .before .if1 .left) in (
+      fields-of (s .args .rules .now) ok (s .args .rule) here (r .rule-at .ensures),
+      λ e. fields-referred (s .args .rules .now) ok (s .args .rule) here (r .rule-at .ensures) (q .referred-rule .ensures) e .0,
+      turnable (o .0) _ (s .args .rule) (s .args .out .now) (o .1) (s .pre .1) (n .count-rules .ensures) (r .before .if1 .left) (r .rule-at .ensures),
+    )
 
 same-length : tie.Need-same-length
 same-length c = search needs
 
-returns-4 : tie.Need-returns-4
-returns-4 c =
-    let a = c .before .before .before .before .before .before .before .before .before .before .before .before .before .before .before .before .before .before .before .before .args in
-    let ok = read-as (a .rules .now) (c .before .before .before .before .before .before .before .before .before .before .enum-told .given .1) (c .before .before .before .before .before .before .before .before .before .before .before .before .read-rules .ensures) in
-    let n = c .before .before .before .before .before .before .before .before .before .count-rules .ensures in
-    let f = c .before .before .changes-front in (
-      λ doc t w. table-listed (a .rules .now) (a .k) ok n (c .before .before .before .before .before .before .before .before .if1 .left) (c .before .before .before .before .before .before .before .rule-at .ensures) (c .before .before .before .before .before .if2 .left) (c .before .before .before .before .referred-rule .ensures) doc _ (λ p e. f .ensures .0 doc p t w e),
-      λ doc t w. table-lent (a .rules .now) (a .k) ok n (c .before .before .before .before .before .before .before .before .if1 .left) (c .before .before .before .before .before .before .before .rule-at .ensures) (c .before .before .before .before .before .if2 .left) (c .before .before .before .before .referred-rule .ensures) doc (a .out .now) (f .result) _ (λ p e. f .ensures .1 doc p t w e),
-    )
+returns-3 : tie.Need-returns-3
+returns-3 c nodes o =
+    let f = c .before .before in
+    let q = referred (f .before) in
+    let r = sequenced (q .before) in
+    let n = r .before .before in
+    let s = start n in
+    changes-stored nodes _ _ _ o (s .pre .1) (n .count-rules .ensures) (r .before .if1 .left) (r .rule-at .ensures) (q .before .if2 .left) (q .referred-rule .ensures)
+    (λ doc p t w e. f .changes-front .ensures .0 doc p t w e) (λ doc p t w e. f .changes-front .ensures .1 doc p t w e)
 
-pub changes-in-table-spec : {M : Type 1} → statement M
-changes-in-table-spec =
+pub changes-of-spec : {M : Type 1} → statement M
+changes-of-spec =
     tie.close
     (tie.spec
-    read-rules-requires
-    enum-known-read
-    returns
-    enum-told
     count-rules-requires
-    returns-2
+    returns
     rule-at-requires
-    returns-3
+    returns-2
     referred-rule-requires
+    slice-aggregate-changes-front
+    slice-aggregate-changes-front-2
+    slice-aggregate-changes-front-3
+    slice-aggregate-changes-front-4
+    slice-aggregate-changes-front-5
     changes-front-requires
     same-length
-    returns-4)
+    returns-3)

@@ -1,0 +1,86 @@
+-- What opened images are known to be: refused as both are read in turn, or both accepted, with the first one's document in the columns.
+use mathlib.Core.Path.{_≡_, refl, sym, _∙_}
+use mathlib.Core.List.{List}
+use Prim.Native.Nat.{ℕ}
+use lib.ListN.{length}
+use Rattle.meaning.specs.declared.Reading.{Reading}
+use Rattle.meaning.specs.declared.Reading.the-variants.{Accepted, Refused}
+use Rattle.meaning.specs.Order.{andThen}
+use Rattle.meaning.specs.Nodes.{nodesOf, docOf, readNodes}
+use Rattle.meaning.specs.Rules.{readRules}
+use Rattle.meaning.proofs.Orders.{contrary, then-accepted}
+use Rattle.columns.specs.declared.Loaded.{Loaded}
+use Rattle.columns.specs.declared.Loaded.the-variants.{Nodes, Refused as Unloaded}
+use Rattle.columns.specs.declared.Columns.{Columns}
+use Rattle.columns.specs.Lent.{Fronts}
+use Rattle.values.specs.Represents.{Represents}
+use Rattle.nodes.specs.Loading.{loaded}
+use Rattle.nodes.specs.Unpacking.{Unpacks, together}
+use Rattle.nodes.proofs.Held.{told-refused, told-nodes, refused-image, held-image, size-held, whole-held, front-room}
+use Rattle.bank.specs.Opening.{Opens, Open}
+
+-- a refusal stays one, whatever is read after it
+pub still : {a b : ℕ} (x y z : Reading) → andThen x y ≡ Refused a b → andThen x (andThen y z) ≡ Refused a b
+still (Refused a b) y z e = e
+still Accepted (Refused a b) z e = e
+still Accepted Accepted z e = absurd (contrary refl e)
+
+-- the columns of an accepted image, as far as its records go
+abbrev pub fronts : {image : List ℕ} {c : Columns} → Unpacks image c → {n : ℕ} → c .loaded ≡ Nodes n
+    → Fronts n (c .kind) (c .vkind) (c .name) (c .parent) (c .begin) (c .end) (c .value) (c .item)
+fronts {image} u {n} e =
+    let w = whole-held image u e in
+    let size = size-held image u e in
+    record {
+      kind = front-room _ (w .tree .kind) size;
+      vkind = front-room _ (w .values-held .vkind) size;
+      name = front-room _ (w .tree .name) size;
+      parent = front-room _ (w .tree .parent) size;
+      begin = front-room _ (w .periods .begin) size;
+      end = front-room _ (w .periods .end) size;
+      value = front-room _ (w .values-held .value) size;
+      item = front-room _ (w .numbers .item) size;
+      doc = docOf image;
+      whole = w;
+    }
+
+module _ {nodes : List ℕ} (rules : List ℕ) {c : Columns} where
+  -- the ways to open two images: the nodes are refused, or the rules, or neither
+  module _ (u : Unpacks nodes c) where
+    both : Loaded
+    both = loaded (andThen (readNodes nodes) (readRules rules)) (length (nodesOf nodes))
+
+    pub opens-refused : {a b : ℕ} → c .loaded ≡ Unloaded a b → Opens nodes rules c
+    opens-refused r = record { nodes-alone = c .loaded; columns = u; answer = rw (r, refused-image nodes (u .answer) r) }
+
+    module _ {n : ℕ} (r : c .loaded ≡ Nodes n) where
+      pub opens-both : readRules rules ≡ Accepted → Opens nodes rules c
+      opens-both t =
+          let h = held-image nodes (u .answer) r in
+          record { nodes-alone = c .loaded; columns = u; answer = rw (r, h .accepted, t, h .count) }
+
+      pub opens-neither : {a b : ℕ} → readRules rules ≡ Refused a b → {x : Columns}
+          → x ≡ together (Unloaded a b) (c .kind) (c .vkind) (c .name) (c .parent) (c .begin) (c .end) (c .value) (c .item) → Opens nodes rules x
+      opens-neither t e = rw e (record { nodes-alone = c .loaded; columns = u; answer = rw (held-image nodes (u .answer) r .accepted, t) })
+
+  module _ (o : Opens nodes rules c) where
+    pub refused-both : {a b : ℕ} → c .loaded ≡ Unloaded a b → andThen (readNodes nodes) (readRules rules) ≡ Refused a b
+    refused-both r = told-refused (andThen (readNodes nodes) (readRules rules)) (length (nodesOf nodes)) (o .answer) r
+
+    module _ {n : ℕ} (r : c .loaded ≡ Nodes n) where
+      pub accepted-both : (readNodes nodes ≡ Accepted) × (readRules rules ≡ Accepted)
+      accepted-both = then-accepted (readNodes nodes) (readRules rules) (told-nodes (andThen (readNodes nodes) (readRules rules)) (length (nodesOf nodes)) (o .answer) r .0)
+
+      -- so the nodes alone were as many
+      pub alone : o .nodes-alone ≡ Nodes n
+      alone = go (o .nodes-alone) refl
+        where
+          go : (x : Loaded) → o .nodes-alone ≡ x → o .nodes-alone ≡ Nodes n
+          go (Nodes m) e = e ∙ rw (held-image nodes (o .columns .answer) e .count, sym (told-nodes (andThen (readNodes nodes) (readRules rules)) (length (nodesOf nodes)) (o .answer) r .1))
+          go (Unloaded a b) e = absurd (contrary (accepted-both .0) (refused-image nodes (o .columns .answer) e))
+
+      abbrev pub open-fronts : Fronts n (c .kind) (c .vkind) (c .name) (c .parent) (c .begin) (c .end) (c .value) (c .item)
+      open-fronts = fronts (o .columns) alone
+
+      pub opened : {reps : List ℕ} → Represents (docOf nodes) reps → Open nodes rules n (c .kind) (c .vkind) (c .name) (c .parent) (c .begin) (c .end) (c .value) (c .item) reps
+      opened p = record { accepted = accepted-both .0; table = accepted-both .1; fronts = open-fronts; document = refl; represents = p }
