@@ -3,6 +3,9 @@ use crate::random::Random;
 use crate::records::{Images, Node, Pair, Rule};
 use crate::table::names_to;
 
+/// The most entries that a list has: change days of 1,000 versions and the period's first.
+const LIST: usize = 2001;
+
 fn day(random: &mut Random, nodes: &[Node]) -> u16 {
     let n = &nodes[random.below(nodes.len())];
     match random.share(&[30, 25, 15, 20, 3, 3, 2, 2]) {
@@ -76,12 +79,12 @@ pub fn asked(random: &mut Random, pair: &Pair, exact: usize) -> [u16; 5] {
     let days = [day(random, &pair.nodes), day(random, &pair.nodes)];
     let numbers = [number(random, &pair.rules), number(random, &pair.rules)];
     let room = match random.share(&[100, 10, exact, exact]) {
-        0 => 2048,
+        0 => [LIST, LIST + 1, 65535][days[0] as usize % 3],
         1 => random.below(12),
         2 => needed(random, pair, days, numbers),
         _ => needed(random, pair, days, numbers).saturating_sub(1),
     };
-    [days[0], days[1], numbers[0], numbers[1], room.min(2048) as u16]
+    [days[0], days[1], numbers[0], numbers[1], room as u16]
 }
 
 /// The header of a pair in the file.

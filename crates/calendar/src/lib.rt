@@ -14,7 +14,7 @@ pub enum Month {
 // The number of the table's last entry, January 2100.
 const LAST: usize = 1200;
 
-// The table in memory. A constant is laid out anew wherever it is read, so each public function has it laid out once, here, and lends it on.
+// The table in memory. A constant is laid out anew wherever it is read, so whoever looks months up has it laid out once, here, and lends it on.
 pub fn starts() -> [u16; 1201]
     ensures { λ r. ⌜ MonthTable r ⌝ }
 {
@@ -50,14 +50,6 @@ pub fn month_in(table: &[u16; 1201], day: u16) -> Month
         k += 1;
     }
     Month::Absent
-}
-
-// The day on which month k starts; for a month past the table, the table's last day.
-pub fn month_start(k: usize) -> u16
-    ensures { λ r. ⌜ r ≡ monthStart k ⌝ }
-{
-    let table = starts();
-    entry(&table, k)
 }
 
 // The month that starts on the day, if one of months 0 to 1,200 does.

@@ -136,11 +136,3 @@ pub fn step_in_range(q: i32, p: i32, low: i32, high: i32) -> bool
     let step = difference(q, p);
     (widen(low) <= step) & (step <= widen(high))
 }
-
-// Whether the count n lies from low to high.
-pub fn count_in_range(n: usize, low: i32, high: i32) -> bool
-    requires { ⌜ n ≤ 4000 ⌝ }
-    ensures { λ r. ⌜ r ≡ (leZ low (pos n) && leZ (pos n) high) ⌝ }
-{
-    in_range(n as i32, low, high)
-}

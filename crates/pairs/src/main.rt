@@ -1,16 +1,18 @@
 // Reads pairs of images from `pairs.blk` of its folder and prints for each its report, two slices, the change days of two rules and the
-// verdicts on them. A test program, so that many pairs run in one process. A pair is a header of 20 bytes and the two images.
+// verdicts on them. The test program of every public call, over many pairs in one process. A pair is a header of 20 bytes and the two
+// images (`tests/README.md`).
 use files::Got;
 use libc::STDOUT_FILENO;
 use meaning::Listed;
+ghost use Prim.Native.Nat.{_≤_};
 
 // The largest good images, and one byte more, so that a longer one is refused by its length.
 const NODES_ROOM: usize = 20481;
 
 const RULES_ROOM: usize = 5121;
 
-// More than any list needs (1,000 records, or 2,001 change days) and more than a pair may ask for.
-const LIST_ROOM: usize = 2049;
+// No list needs more (1,000 records, or 2,001 change days): a pair that asks for more room has the same answers in this much.
+const LIST_ROOM: usize = 2001;
 
 // Room for a line of so many numbers.
 const LINE: usize = 16384;
@@ -34,21 +36,18 @@ fn write_report(nodes: &[u8], rules: &[u8]) {
     io::write_all(STDOUT_FILENO, spelling::front(&text, end));
 }
 
-// The line of a file that cannot be read.
-fn write_unreadable(name: &[u8]) {
-    let mut text = [0u8; TEXT_ROOM];
-    let end = spelling::lines::unreadable(&mut text, name);
-    io::write_all(STDOUT_FILENO, spelling::front(&text, end));
+// The number in two bytes of a header.
+fn short(head: &[u8; 20], at: usize) -> usize
+    requires { ⌜ at ≤ 18 ⌝ }
+{
+    numbers::two_at(head, at) as usize
 }
 
-// The number in two bytes.
-fn pair(low: u8, high: u8) -> usize {
-    (low as usize) + 256 * (high as usize)
-}
-
-// The number in four bytes.
-fn quad(a: u8, b: u8, c: u8, d: u8) -> usize {
-    (a as usize) + 256 * (b as usize) + 65536 * (c as usize) + 16777216 * (d as usize)
+// The number in four bytes of a header.
+fn long(head: &[u8; 20], at: usize) -> usize
+    requires { ⌜ at ≤ 16 ⌝ }
+{
+    numbers::four_at(head, at) as usize
 }
 
 // A number of a list, after a space.
@@ -96,11 +95,13 @@ fn write_slice(nodes: &[u8], day: usize, list: &mut [u16]) {
     write_list(b"slice", day, listed, list);
 }
 
-// The same in a list of so many entries.
+// The same in a list of so many entries, or of as many as any list needs.
 fn write_slice_in(nodes: &[u8], day: usize, room: usize) {
     let mut list = [0u16; LIST_ROOM];
     if room < LIST_ROOM {
         write_slice(nodes, day, &mut list[0..room]);
+    } else {
+        write_slice(nodes, day, &mut list);
     }
 }
 
@@ -110,11 +111,13 @@ fn write_changes(nodes: &[u8], rules: &[u8], rule: usize, list: &mut [u16]) {
     write_list(b"changes", rule, listed, list);
 }
 
-// The same in a list of so many entries.
+// The same in a list of so many entries, or of as many as any list needs.
 fn write_changes_in(nodes: &[u8], rules: &[u8], rule: usize, room: usize) {
     let mut list = [0u16; LIST_ROOM];
     if room < LIST_ROOM {
         write_changes(nodes, rules, rule, &mut list[0..room]);
+    } else {
+        write_changes(nodes, rules, rule, &mut list);
     }
 }
 
@@ -128,17 +131,17 @@ fn write_verdict(nodes: &[u8], rules: &[u8], rule: usize) {
 }
 
 // All lines of one pair.
-fn write_pair(number: usize, head: [u8; 20], nodes: &[u8], rules: &[u8]) {
+fn write_pair(number: usize, head: &[u8; 20], nodes: &[u8], rules: &[u8]) {
     let mut line = [0u8; LINE];
     let named = spelling::put(&mut line, 0, b"pair");
     let end = spelling::put_next(&mut line, named, number);
     write_line(&mut line, end);
     write_report(nodes, rules);
-    let first = pair(head[12], head[13]);
-    let second = pair(head[14], head[15]);
-    let room = pair(head[16], head[17]);
-    write_slice_in(nodes, pair(head[8], head[9]), room);
-    write_slice_in(nodes, pair(head[10], head[11]), room);
+    let first = short(head, 12);
+    let second = short(head, 14);
+    let room = short(head, 16);
+    write_slice_in(nodes, short(head, 8), room);
+    write_slice_in(nodes, short(head, 10), room);
     write_changes_in(nodes, rules, first, room);
     write_changes_in(nodes, rules, second, room);
     write_verdict(nodes, rules, first);
@@ -167,8 +170,8 @@ fn one_pair(fd: i32, number: usize) -> bool {
     if !filled(fd, &mut head) {
         return false;
     }
-    let n = quad(head[0], head[1], head[2], head[3]);
-    let m = quad(head[4], head[5], head[6], head[7]);
+    let n = long(&head, 0);
+    let m = long(&head, 4);
     let mut nodes = [0u8; NODES_ROOM];
     if !filled_front(fd, n, &mut nodes) {
         return false;
@@ -179,7 +182,7 @@ fn one_pair(fd: i32, number: usize) -> bool {
     }
     write_pair(
         number,
-        head,
+        &head,
         spelling::front(&nodes, n),
         spelling::front(&rules, m),
     );
@@ -189,7 +192,7 @@ fn one_pair(fd: i32, number: usize) -> bool {
 fn main() {
     let fd = os::open_read(b"pairs.blk");
     if fd < 0 {
-        write_unreadable(b"pairs.blk");
+        io::write_all(STDOUT_FILENO, b"unreadable pairs.blk\n");
         return;
     }
     let mut number: usize = 0;

@@ -20,7 +20,7 @@ ghost use Rattle.windows.specs.Walkable.{Lookable, Going};
 
 pub mod places; // places.rt: where the windows of a rule start and end
 pub mod leaps; // leaps.rt: how many windows see the same
-pub mod judging; // judging.rt: the verdict on a rule whose lists are laid out
+pub mod setting_out; // setting_out.rt: the verdict on a rule whose lists are laid out
 
 // The first window with an offender, with its lowest one and how many windows were looked at: the first window is at `place`, each spans
 // `span` places and the next one is `slide` further on, while the start lies before day `close`. Windows that see the same as one without
@@ -128,5 +128,5 @@ pub fn verdict(
         own,
         r,
     );
-    judging::judge(&own.read, laid, held, begin, end, rep, &group, r)
+    setting_out::judge(&own.read, laid, held, begin, end, rep, &group, r)
 }

@@ -16,11 +16,11 @@ slice-aggregate-open-read c = search needs
 open-read-requires : tie.Need-open-read-requires Inv-loop μ-loop
 open-read-requires c κs = search needs
 
-slice-aggregate-write-unreadable : tie.Need-slice-aggregate-write-unreadable Inv-loop μ-loop
-slice-aggregate-write-unreadable c = search needs
+slice-aggregate-write-all : tie.Need-slice-aggregate-write-all Inv-loop μ-loop
+slice-aggregate-write-all c = search needs
 
-write-unreadable-requires : tie.Need-write-unreadable-requires Inv-loop μ-loop
-write-unreadable-requires c κs = search needs
+write-all-requires : tie.Need-write-all-requires Inv-loop μ-loop
+write-all-requires c κs = search needs
 
 returns : tie.Need-returns Inv-loop μ-loop
 returns c = search needs
@@ -54,8 +54,8 @@ main-spec =
     μ-loop
     slice-aggregate-open-read
     open-read-requires
-    slice-aggregate-write-unreadable
-    write-unreadable-requires
+    slice-aggregate-write-all
+    write-all-requires
     returns
     loop-holds
     one-pair-requires

@@ -1,4 +1,4 @@
-// The verdict on a non-sequenced rule whose lists are laid out: the arrays of the walk, and its places.
+// The verdict on a non-sequenced rule whose lists are laid out: what its walk sets out with, the marked days, the first place, fresh stamps and tokens.
 use crate::places::Places;
 use columns::LIMIT;
 use meaning::Rule;

@@ -1,12 +1,12 @@
--- `windows::judging::judge` meets its contract: the change days are marked, the places fit the rule, and the walk over them gives the verdict.
+-- `windows::setting_out::judge` meets its contract: the change days are marked, the places fit the rule, and the walk over them gives the verdict.
 use mathlib.Core.Path.{refl}
 use borrow.Author.Needs.{needs}
 use Rattle.changes.proofs.Columns.{markable, each-day}
 use Rattle.changes.proofs.Spans.{first-few}
 use Rattle.windows.proofs.Fitting.{going}
 use Rattle.windows.proofs.Settling.{settled-laid}
-use Rattle.windows.proofs.judging.judge.Statement.{statement}
-use Rattle.windows.proofs.judging.judge.Tie as tie
+use Rattle.windows.proofs.setting_out.judge.Statement.{statement}
+use Rattle.windows.proofs.setting_out.judge.Tie as tie
 
 slice-aggregate-mark-changes : tie.Need-slice-aggregate-mark-changes
 slice-aggregate-mark-changes c = search needs

@@ -1,8 +1,8 @@
--- `windows::judging::walk_clear` meets its contract: fresh stamps and tokens are those of no window.
+-- `windows::setting_out::walk_clear` meets its contract: fresh stamps and tokens are those of no window.
 use borrow.Author.Needs.{needs}
 use Rattle.windows.proofs.Settling.{lookable}
-use Rattle.windows.proofs.judging.walk_clear.Statement.{statement}
-use Rattle.windows.proofs.judging.walk_clear.Tie as tie
+use Rattle.windows.proofs.setting_out.walk_clear.Statement.{statement}
+use Rattle.windows.proofs.setting_out.walk_clear.Tie as tie
 
 slice-aggregate-walk : tie.Need-slice-aggregate-walk
 slice-aggregate-walk c = search needs
