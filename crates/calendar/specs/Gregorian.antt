@@ -1,4 +1,4 @@
--- The Gregorian calendar, months and days counted from 1 January 2000: the months' lengths, their starts, and which month starts on a day.
+-- The Gregorian calendar, months and days counted from 1 January 2000 (MEANING 1): the months' lengths, their starts, and which month starts on a day.
 -- Assumes nothing: these are definitions, and each computes.
 use mathlib.Core.Bool.{Bool, not, _&&_, _||_, cond}
 use mathlib.Core.List.{List, [], _∷_}

@@ -1,4 +1,4 @@
--- What the code of the record pass works out in between: one record decoded (01, refusals 4 and 5), and a depth by the depths of lower records.
+-- What the code of the record pass works out in between: one record decoded (MEANING 13: 4 and 5), and a depth by the depths of lower records.
 use Prim.Native.Nat.{ℕ, _+_}
 use mathlib.Core.Bool.{cond}
 use mathlib.Core.List.{List}

@@ -1,4 +1,4 @@
--- What the three calls answer and what a lent list then holds (01, "What comes back"), refusals in their order.
+-- What the three calls answer and what a lent list then holds (MEANING 13, 14), refusals in their order.
 use Prim.Native.Nat.{ℕ}
 use mathlib.Core.Bool.{_&&_, cond}
 use mathlib.Core.List.{List, _++_}
@@ -73,7 +73,7 @@ changesAnswer nodes rules k lent = storing (readChanges nodes rules k) (changesO
 unfoldable pub changesLent : List ℕ → List ℕ → ℕ → List ℕ → List ℕ
 changesLent nodes rules k lent = lentAfter (changesAnswer nodes rules k lent) (changesOf nodes rules k) lent
 
--- 01's number and values of an answer: 0 holds, 1 fails, 2 refused; what an answer does not carry is 0
+-- an answer in numbers (MEANING 12): 0 holds, 1 fails, 2 refused; what an answer does not carry is 0
 pub record Told : Type 0 where
   pub outcome : ℕ
   pub number : ℕ

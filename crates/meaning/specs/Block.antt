@@ -1,4 +1,4 @@
--- Blocks of 512 bytes and the image they make up (01, "Blocks"): check, header, zeros, and refusals 1 to 4 or 21 to 24.
+-- Blocks of 512 bytes and the image they make up (MEANING 2): check, header, zeros, and refusals 1 to 4 or 21 to 24.
 use Prim.Native.Nat.{ℕ, suc, _+_, _-_, _*_, _/_, _%_, _^_}
 use mathlib.Core.Bool.{Bool, true, _&&_, cond}
 use mathlib.Core.List.{List, [], _∷_}

@@ -1,4 +1,4 @@
--- Numbers in bytes, little-endian (01, "Blocks"): unsigned of one, two and four bytes, the signed reading of four, equality of signed numbers.
+-- Numbers in bytes, little-endian (MEANING 2): unsigned of one, two and four bytes, the signed reading of four, equality of signed numbers.
 use Prim.Native.Nat.{ℕ, _+_, _-_, _*_}
 use mathlib.Core.Bool.{Bool, false, cond}
 use mathlib.Core.List.{List}

@@ -1,4 +1,4 @@
--- Presence on a day, the slice, the offenders of a day, change days and the verdict of a sequenced rule (01, "Meaning on one day").
+-- Presence on a day, the slice, the offenders of a day, change days and the verdict of a sequenced rule (MEANING 7, 8, 9, 12).
 use Prim.Native.Nat.{ℕ, zero, suc, _-_}
 use mathlib.Core.Bool.{Bool, false, _&&_, _||_, not}
 use mathlib.Core.List.{List}

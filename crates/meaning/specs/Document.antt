@@ -1,4 +1,4 @@
--- A document (01, "Node record"): a count, and for each field of the records a column, a function of the record's number.
+-- A document (MEANING 4): a count, and for each field of the records a column, a function of the record's number.
 use Prim.Native.Nat.{ℕ, _≤_}
 use mathlib.Core.Path.{_≡_}
 use mathlib.Core.Bool.{Bool, _&&_}

@@ -1,4 +1,4 @@
--- Node images (01, "Node record"): the record's table, the tests 4 to 10 on a document, and what comes of reading an image.
+-- Node images (MEANING 3, 4): the record's table, the tests 4 to 10 on a document, and what comes of reading an image.
 use Prim.Native.Nat.{ℕ, zero, suc, _+_}
 use mathlib.Core.Bool.{Bool, _&&_, _||_, not, cond}
 use mathlib.Core.List.{List, [], _∷_}

@@ -1,4 +1,4 @@
--- The order of refusals (01, "What comes back"): tests one after the other, each at its lowest place.
+-- The order of refusals (MEANING 13): tests one after the other, each at its lowest place.
 use Prim.Native.Nat.{ℕ, zero, suc}
 use mathlib.Core.Bool.{Bool, true, false}
 use mathlib.Core.List.{List, [], _∷_}

@@ -1,4 +1,4 @@
--- Rule images (01, "Rule record"): the record's table, the tests 24 to 26, and what comes of reading an image.
+-- Rule images (MEANING 5): the record's table, the tests 24 to 26, and what comes of reading an image.
 use Prim.Native.Nat.{ℕ, zero, suc, _+_, _*_}
 use mathlib.Core.Bool.{Bool, true, false, _&&_, _||_, not, cond}
 use mathlib.Core.List.{List, [], _∷_}

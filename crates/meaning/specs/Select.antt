@@ -1,4 +1,4 @@
--- What a rule selects and reads, and what values are (01, "Meaning on one day"). Nothing here speaks of days.
+-- What a rule selects and reads, and what values are (MEANING 6). Nothing here speaks of days.
 use Prim.Native.Nat.{ℕ, zero, suc}
 use mathlib.Core.Bool.{Bool, false, _&&_, _||_, cond}
 use lib.IntN.{ℤ}

@@ -1,4 +1,4 @@
--- Windows, the offenders of a window, and the verdict of a non-sequenced rule (01, "Meaning in a window").
+-- Windows, the offenders of a window, and the verdict of a non-sequenced rule (MEANING 10, 11, 12).
 use Prim.Native.Nat.{ℕ, zero, suc, _+_, _-_}
 use mathlib.Core.Bool.{Bool, false, _&&_, _||_, not, cond}
 use mathlib.Core.List.{List, [], _∷_}

@@ -1,4 +1,4 @@
-// The records and the answers of document 01, as the code passes them and the definitions in specs/ use them.
+// The records and the answers of docs/MEANING.md, as the code passes them and the definitions in specs/ use them.
 // The lowest number that passes a test, or that none does.
 pub enum Found {
     At(usize),

@@ -1,4 +1,4 @@
--- The text of a report (01, "The example bank"): a header and a line for each rule, or one line that says why there is none.
+-- The text of a report (MEANING 15): a header and a line for each rule, or one line that says why there is none.
 use mathlib.Core.List.{List, [], _++_}
 use Prim.Native.Nat.{ℕ, zero, suc}
 use lib.ListN.{length}

@@ -1,4 +1,4 @@
--- The lines of a report (01, "The example bank"): one space parts the fields, and a line feed ends each.
+-- The lines of a report (MEANING 15): one space parts the fields, and a line feed ends each.
 use mathlib.Core.List.{List, _++_}
 use Prim.Native.Nat.{ℕ}
 use Rattle.meaning.specs.declared.Verdict.{Verdict}
