@@ -61,9 +61,10 @@ shared-slice-read-result c = search needs
 returns-2 : tie.Need-returns-2 Inv-loop μ-loop
 unfolding sameValue
 returns-2 c =
-    let p = entry (head (c .before .before) .before) .pre in
-    let s = head (c .before .before) .loop .inv in
-    falling-hit _ _ (s .0) _ (p .3) (else1 (head (c .before .before)) .if1 .left) _ (s .1) (omega arith) _ (p .4) _ (c .before .before .same-value .ensures) (c .before .if2 .taken)
+    let top = head (c .before .before) in
+    let p = entry (top .before) .pre in
+    let s = top .loop .inv in
+    falling-hit _ _ (s .0) _ (p .3) (else1 top .if1 .left) _ (s .1) (omega arith) _ (p .4) _ (c .before .before .same-value .ensures) (c .before .if2 .taken)
 
 sub-index : tie.Need-sub-index Inv-loop μ-loop
 sub-index c = search needs
@@ -79,16 +80,18 @@ index-requires-2 c κs = search needs
 
 loop-less : tie.Need-loop-less Inv-loop μ-loop
 loop-less c =
-    let p = entry (head (c .before .before .before) .before) .pre in
-    let s = head (c .before .before .before) .loop .inv in
-    falling-less _ _ (s .0) _ (p .3) (else1 (head (c .before .before .before)) .if1 .left) _ (s .1) (omega arith) _ (c .index2 .ensures)
+    let top = head (c .before .before .before) in
+    let p = entry (top .before) .pre in
+    let s = top .loop .inv in
+    falling-less _ _ (s .0) _ (p .3) (else1 top .if1 .left) _ (s .1) (omega arith) _ (c .index2 .ensures)
 
 loop-again : tie.Need-loop-again Inv-loop μ-loop
 unfolding sameValue
 loop-again c =
-    let p = entry (head (c .before .before .before) .before) .pre in
-    let s = head (c .before .before .before) .loop .inv in
-    (s .0, falling-next _ _ (s .0) _ (p .3) (else1 (head (c .before .before .before)) .if1 .left) _ (s .1) (omega arith) _ (c .index2 .ensures) _ (c .before .before .before .same-value .ensures) (c .before .before .if2 .left))
+    let top = head (c .before .before .before) in
+    let p = entry (top .before) .pre in
+    let s = top .loop .inv in
+    (s .0, falling-next _ _ (s .0) _ (p .3) (else1 top .if1 .left) _ (s .1) (omega arith) _ (c .index2 .ensures) _ (c .before .before .before .same-value .ensures) (c .before .before .if2 .left))
 
 cast-result : tie.Need-cast-result Inv-loop μ-loop
 cast-result c = search needs
