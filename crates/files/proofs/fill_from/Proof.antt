@@ -59,7 +59,7 @@ after-buf c = c .before .before .before .before .before
 
 -- from the other arm of `if1` back to the head of the loop
 abbrev head : tie.Else1 Inv-loop μ-loop → tie.At-loop Inv-loop μ-loop
-head c = c .before .before .before .before .before .before .before .before .before
+head c = after-buf c .before .before .before .before
 
 add-at : tie.Need-add-at Inv-loop μ-loop
 add-at c =

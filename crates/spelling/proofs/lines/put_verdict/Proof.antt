@@ -61,27 +61,27 @@ after-put-next3 c = c .before .before .before .before .before .before
 
 -- from `slice-known7` back to the call of `put-next2`
 abbrev after-put-next2 : tie.After-slice-known7 → tie.After-put-next2
-after-put-next2 c = c .before .before .before .before .before .before .before .before .before .before
+after-put-next2 c = after-put-next3 c .before .before .before .before
 
 -- from `slice-known10` back to the call of `put-next5`
 abbrev after-put-next5 : tie.After-slice-known10 → tie.After-put-next5
 after-put-next5 c = c .before .before .before .before .before .before
 
+-- from `slice-known7` back to the call of `put2`
+abbrev after-put2 : tie.After-slice-known7 → tie.After-put2
+after-put2 c = after-put-next2 c .before .before .before .before
+
 -- from `slice-known10` back to the call of `put3`
 abbrev after-put3 : tie.After-slice-known10 → tie.After-put3
-after-put3 c = c .before .before .before .before .before .before .before .before .before .before
+after-put3 c = after-put-next5 c .before .before .before .before
 
 -- from `slice-known3` back to the call of `put`
 abbrev after-put : tie.After-slice-known3 → tie.After-put
 after-put c = c .before .before .before .before .before .before
 
--- from the call of `put-next2` back to the call of `put2`
-abbrev after-put2 : tie.After-put-next2 → tie.After-put2
-after-put2 c = c .before .before .before .before
-
--- from the call of `put2` back to `found2`
-abbrev after-found2 : tie.After-put2 → tie.After-found2
-after-found2 c = c .before .before .before .before
+-- from `slice-known7` back to `found2`
+abbrev after-found2 : tie.After-slice-known7 → tie.After-found2
+after-found2 c = after-put2 c .before .before .before .before
 
 -- from the call of `put3` back to `found3`
 abbrev after-found3 : tie.After-put3 → tie.After-found3
@@ -102,8 +102,8 @@ returns-2 : tie.Need-returns-2
 unfolding told word
 returns-2 c =
     puts-as
-    (puts-then (puts-then (puts-then (after-put2 (after-put-next2 c) .put2 .ensures) (after-put-next2 c .put-next2 .ensures)) (after-put-next3 c .put-next3 .ensures)) (c .before .before .put-next4 .ensures))
-    (sym (ap told (after-found2 (after-put2 (after-put-next2 c)) .found2 .given .1)))
+    (puts-then (puts-then (puts-then (after-put2 c .put2 .ensures) (after-put-next2 c .put-next2 .ensures)) (after-put-next3 c .put-next3 .ensures)) (c .before .before .put-next4 .ensures))
+    (sym (ap told (after-found2 c .found2 .given .1)))
 
 same-length-3 : tie.Need-same-length-3
 same-length-3 c = search needs

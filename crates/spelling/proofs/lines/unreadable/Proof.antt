@@ -28,13 +28,13 @@ same-length c = search needs
 abbrev after-put2 : tie.After-slice-known4 → tie.After-put2
 after-put2 c = c .before .before .before .before .before .before .before
 
--- from the call of `put2` back to the call of `put`
-abbrev after-put : tie.After-put2 → tie.After-put
-after-put c = c .before .before .before .before
+-- from `slice-known4` back to the call of `put`
+abbrev after-put : tie.After-slice-known4 → tie.After-put
+after-put c = after-put2 c .before .before .before .before
 
 returns : tie.Need-returns
 unfolding unreadableLine word
-returns c = puts-then (puts-then (after-put (after-put2 c) .put .ensures) (after-put2 c .put2 .ensures)) (c .before .before .put3 .ensures)
+returns c = puts-then (puts-then (after-put c .put .ensures) (after-put2 c .put2 .ensures)) (c .before .before .put3 .ensures)
 
 pub unreadable-spec : {M : Type 1} → statement M
 unreadable-spec =
