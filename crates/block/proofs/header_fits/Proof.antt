@@ -28,7 +28,8 @@ shared-slice-read-result-2 c = search needs
 returns : tie.Need-returns
 unfolding headerFits
 returns c =
-    let l = c .before .before .before .before in
+    let s = c .before .before in
+    let l = s .before .before in
     rw (l .before .before .four-at .ensures, l .before .two-at .ensures, l .least .ensures)
 
 pub header-fits-spec : {M : Type 1} → statement M

@@ -58,11 +58,15 @@ enum-told c = search needs
 enum-told-2 : tie.Need-enum-told-2 Inv-loop μ-loop
 enum-told-2 c = search needs
 
+-- from the head of the loop back to the start
+abbrev entry : tie.At-loop Inv-loop μ-loop → tie.Start Inv-loop μ-loop
+entry c = c .before .before .before .before
+
 returns-2 : tie.Need-returns-2 Inv-loop μ-loop
 returns-2 c =
     let r = c .before .before in
     let l = r .before .before .before in
-    let image = l .before .before .before .before .args .image .now in
+    let image = entry l .args .image .now in
     refused _ image (l .loop .b) (r .before .before .loop-test .taken) (r .read-block .ensures) (c .enum-told2 .given .1) ∙ l .loop .inv .3
 
 add-b : tie.Need-add-b Inv-loop μ-loop
@@ -75,14 +79,14 @@ loop-again : tie.Need-loop-again Inv-loop μ-loop
 loop-again c =
     let r = c .before .before in
     let l = r .before .before .before in
-    let image = l .before .before .before .before .args .image .now in
+    let image = entry l .args .image .now in
     let next = passed _ image (l .loop .b) (r .before .before .loop-test .taken) (r .read-block .ensures) (c .enum-told .given .1) in
     (omega arith, omega arith, omega arith, next ∙ l .loop .inv .3)
 
 returns-3 : tie.Need-returns-3 Inv-loop μ-loop
 returns-3 c =
     let l = c .before in
-    last-passed _ (l .before .before .before .before .args .image .now) (l .loop .b) (c .loop-test .left) ∙ l .loop .inv .3
+    last-passed _ (entry l .args .image .now) (l .loop .b) (c .loop-test .left) ∙ l .loop .inv .3
 
 pub read-blocks-spec : {M : Type 1} → statement M
 read-blocks-spec =

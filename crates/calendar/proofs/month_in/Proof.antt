@@ -41,9 +41,13 @@ entry-requires c κs = search needs
 returns : tie.Need-returns Inv-loop μ-loop
 returns c = sym (month-on-start _ _ (omega arith) (omega arith))
 
+-- from the other arm of `if1` back to the head of the loop
+abbrev head : tie.Else1 Inv-loop μ-loop → tie.At-loop Inv-loop μ-loop
+head c = c .before .before .before
+
 returns-2 : tie.Need-returns-2 Inv-loop μ-loop
 returns-2 c =
-    let loop = c .before .before .before .before .loop in
+    let loop = head (c .before) .loop in
     sym (none-left _ (loop .k) (loop .inv) (omega arith))
 
 add-k : tie.Need-add-k Inv-loop μ-loop
@@ -54,7 +58,7 @@ loop-less c = search needs
 
 loop-again : tie.Need-loop-again Inv-loop μ-loop
 loop-again c =
-    below-more _ _ (c .before .before .before .before .loop .inv)
+    below-more _ _ (head (c .before) .loop .inv)
     (λ q. c .before .if1 .left (c .before .before .entry .ensures ∙ q))
 
 returns-3 : tie.Need-returns-3 Inv-loop μ-loop

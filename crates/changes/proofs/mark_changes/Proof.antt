@@ -10,8 +10,16 @@ use Rattle.changes.proofs.mark_changes.Tie as tie
 mark-turns-requires : tie.Need-mark-turns-requires
 mark-turns-requires c κs = search needs
 
+-- from the call of `index` back to the call of `mark-turns`
+abbrev after-mark-turns : tie.After-index → tie.After-mark-turns
+after-mark-turns c = c .before .before .before .before .before .before .before
+
+-- from the call of `mark-turns` back to the start
+abbrev entry : tie.After-mark-turns → tie.Start
+entry c = c .before .before .before .before .before .before .before
+
 mark-referred-requires : tie.Need-mark-referred-requires
-mark-referred-requires c κs = datable-same (c .before .before .before .before .before .before .before .before .before .before .pre .1) (c .before .before .before .mark-turns .kept .1 .1 .1 .0)
+mark-referred-requires c κs = datable-same (entry (c .before .before .before) .pre .1) (c .before .before .before .mark-turns .kept .1 .1 .1 .0)
 
 index-requires : tie.Need-index-requires
 index-requires c κs = search needs
@@ -20,14 +28,14 @@ slice-write-days : tie.Need-slice-write-days
 slice-write-days c = search needs
 
 same-length : tie.Need-same-length
-same-length c = simp length-set ((c .before .before .before .mark-referred .kept .1 .1 .1 .1 .0) ∙ (c .before .before .before .before .before .before .before .mark-turns .kept .1 .1 .1 .0))
+same-length c = simp length-set ((c .before .before .before .mark-referred .kept .1 .1 .1 .1 .0) ∙ (after-mark-turns c .mark-turns .kept .1 .1 .1 .0))
 
 returns : tie.Need-returns
 returns c =
-    let p = c .before .before .before .before .before .before .before .before .before .before .before .before .before .before .pre in
+    let p = entry (after-mark-turns c) .pre in
     λ doc q r w own ref referred first.
     changes-done doc q r (p .3) first (p .2) (c .index .ensures)
-    (c .before .before .before .before .before .before .before .mark-turns .ensures doc _ w own)
+    (after-mark-turns c .mark-turns .ensures doc _ w own)
     ref (c .before .before .before .mark-referred .ensures doc _ w referred)
 
 pub mark-changes-spec : {M : Type 1} → statement M

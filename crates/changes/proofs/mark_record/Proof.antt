@@ -23,9 +23,13 @@ slice-write-days-2 c = simp length-set (search needs)
 same-length : tie.Need-same-length
 same-length c = search needs
 
+-- from the call of `index2` back to the start
+abbrev entry : tie.After-index2 → tie.Start
+entry c = c .before .before .before .before
+
 returns-2 : tie.Need-returns-2
 returns-2 c =
-    let p = c .before .before .before .before .pre in
+    let p = entry c .pre in
     added-both _ _ _ _ (c .before .before .if1 .left) (p .0) (p .1) _ _ (c .before .index .ensures) (c .index2 .ensures)
 
 pub mark-record-spec : {M : Type 1} → statement M

@@ -40,10 +40,18 @@ mul-mark-record-2 c = search needs
 shared-slice-read-mark-record-3 : tie.Need-shared-slice-read-mark-record-3 Inv-loop μ-loop
 shared-slice-read-mark-record-3 c = search needs
 
+-- from `mark-record-arg` back to the head of the loop
+abbrev head : tie.After-mark-record-arg Inv-loop μ-loop → tie.At-loop Inv-loop μ-loop
+head c = c .before .before .before .before .before
+
+-- from the head of the loop back to the start
+abbrev entry : tie.At-loop Inv-loop μ-loop → tie.Start Inv-loop μ-loop
+entry c = c .before .before .before .before .before
+
 mark-record-requires : tie.Need-mark-record-requires Inv-loop μ-loop
 mark-record-requires c κs =
-    let p = c .before .before .before .before .before .before .before .before .before .before .pre in
-    let s = c .before .before .before .before .before .loop in
+    let p = entry (head c) .pre in
+    let s = head c .loop in
     (in-begin p (s .i) (omega arith) (s .inv .1), in-end p (s .i) (omega arith) (s .inv .1))
 
 add-i : tie.Need-add-i Inv-loop μ-loop
@@ -54,7 +62,7 @@ loop-less c = search needs
 
 loop-again : tie.Need-loop-again Inv-loop μ-loop
 loop-again c =
-    let s = c .before .before .before .before .before .before .before .before .loop in
+    let s = head (c .before .before .before) .loop in
     let a = c .before .before .mark-record .ensures in
     (omega arith, a .room ∙ s .inv .1, λ doc passes w m. turn-next doc passes w m (s .i) (omega arith) (s .inv .2 doc passes w m) a)
 

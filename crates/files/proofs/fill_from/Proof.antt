@@ -53,10 +53,18 @@ returns-2 : tie.Need-returns-2 Inv-loop μ-loop
 unfolding Within
 returns-2 c = search needs
 
+-- from the other arm of `if1` back to `buf`
+abbrev after-buf : tie.Else1 Inv-loop μ-loop → tie.After-buf Inv-loop μ-loop
+after-buf c = c .before .before .before .before .before
+
+-- from the other arm of `if1` back to the head of the loop
+abbrev head : tie.Else1 Inv-loop μ-loop → tie.At-loop Inv-loop μ-loop
+head c = after-buf c .before .before .before .before
+
 add-at : tie.Need-add-at Inv-loop μ-loop
 add-at c =
-    let s = c .before .before .before .before .before .before .before .before .before .loop in
-    let n : c .before .before .n .given .0 .0 ≤ length (s .buf) - s .at = omega (arith, bounded _ _ _ (c .before .before .n .given .1) (c .before .before .before .before .before .before .one-read .ensures), c .before .before .before .before .before .before .before .one-read-arg .given .2) in
+    let s = head c .loop in
+    let n : c .before .before .n .given .0 .0 ≤ length (s .buf) - s .at = omega (arith, bounded _ _ _ (c .before .before .n .given .1) (after-buf c .before .one-read .ensures), after-buf c .before .before .one-read-arg .given .2) in
     omega arith
 
 loop-less : tie.Need-loop-less Inv-loop μ-loop
@@ -64,9 +72,9 @@ loop-less c = search needs
 
 loop-again : tie.Need-loop-again Inv-loop μ-loop
 loop-again c =
-    let s = c .before .before .before .before .before .before .before .before .before .loop in
-    let n : c .before .before .n .given .0 .0 ≤ length (s .buf) - s .at = omega (arith, bounded _ _ _ (c .before .before .n .given .1) (c .before .before .before .before .before .before .one-read .ensures), c .before .before .before .before .before .before .before .one-read-arg .given .2) in
-    (omega (arith, c .before .before .before .before .before .buf .given .1), omega (arith, c .before .before .before .before .before .buf .given .1))
+    let s = head c .loop in
+    let n : c .before .before .n .given .0 .0 ≤ length (s .buf) - s .at = omega (arith, bounded _ _ _ (c .before .before .n .given .1) (after-buf c .before .one-read .ensures), after-buf c .before .before .one-read-arg .given .2) in
+    (omega (arith, after-buf c .buf .given .1), omega (arith, after-buf c .buf .given .1))
 
 same-length-3 : tie.Need-same-length-3 Inv-loop μ-loop
 same-length-3 c = search needs

@@ -53,10 +53,14 @@ loop-again c =
 same-length : tie.Need-same-length Inv-loop μ-loop
 same-length c = search needs
 
+-- from the head of the loop back to the start
+abbrev entry : tie.At-loop Inv-loop μ-loop → tie.Start Inv-loop μ-loop
+entry c = c .before .before .before .before
+
 returns : tie.Need-returns Inv-loop μ-loop
 returns c =
     let s = c .before .loop in
-    filling-end _ _ _ (s .inv .0) _ (s .out) (s .k) (s .i) (s .inv .1) (c .before .before .before .before .before .pre .3) (omega arith)
+    filling-end _ _ _ (s .inv .0) _ (s .out) (s .k) (s .i) (s .inv .1) (entry (c .before) .pre .3) (omega arith)
 
 pub list-marked-spec : {M : Type 1} → statement M
 list-marked-spec =

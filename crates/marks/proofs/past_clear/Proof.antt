@@ -38,11 +38,15 @@ add-i c = search needs
 loop-less : tie.Need-loop-less Inv-loop μ-loop
 loop-less c = search needs
 
+-- from the head of the loop back to the start
+abbrev entry : tie.At-loop Inv-loop μ-loop → tie.Start Inv-loop μ-loop
+entry c = c .before .before
+
 loop-again : tie.Need-loop-again Inv-loop μ-loop
 loop-again c =
     let b = c .before in
     let s = b .before .before .before .loop in
-    let a = b .before .before .before .before .before .args in
+    let a = entry (b .before .before .before) .args in
     let e = after-stretch (a .marks .now) (a .to) (s .i) (omega arith) _ _ (b .before .join-eight .ensures) (b .join-eight2 .ensures) (c .if1 .left) in
     (search needs, sym e ∙ s .inv .1)
 

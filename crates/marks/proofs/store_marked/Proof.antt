@@ -17,10 +17,14 @@ list-marked-requires c κs = search needs
 same-length : tie.Need-same-length
 same-length c = search needs
 
+-- from `slice-known2` back to the other arm of `if1`
+abbrev else1 : tie.After-slice-known2 → tie.Else1
+else1 c = c .before .before .before .before
+
 returns-2 : tie.Need-returns-2
 returns-2 c =
-    let n = c .before .before .before .before .before .count-marked in
-    (long-enough _ _ _ (n .ensures) (c .before .before .before .before .if1 .left), rw (n .ensures) (c .before .before .list-marked .ensures))
+    let n = else1 c .before .count-marked in
+    (long-enough _ _ _ (n .ensures) (else1 c .if1 .left), rw (n .ensures) (c .before .before .list-marked .ensures))
 
 pub store-marked-spec : {M : Type 1} → statement M
 store-marked-spec =

@@ -33,16 +33,28 @@ link-requires c κs = search needs
 slice-aggregate-way-along : tie.Need-slice-aggregate-way-along
 slice-aggregate-way-along c = search needs
 
+-- from the call of `way-along` back to the call of `link`
+abbrev after-link : tie.After-way-along → tie.After-link
+after-link c = c .before .before .before .before
+
+-- from `chosen3` back to the call of `mark-selected`
+abbrev after-mark-selected : tie.After-chosen3 → tie.After-mark-selected
+after-mark-selected c = c .before .before .before .before .before .before .before .before .before .before
+
+-- from the call of `mark-selected` back to the start
+abbrev entry : tie.After-mark-selected → tie.Start
+entry c = c .before .before .before .before .before
+
 way-along-requires : tie.Need-way-along-requires
 way-along-requires c κs =
-    let s = c .before .before .before .before .before .before .before .before .before .before in
-    let g = s .before .before .before .before .before .pre .1 in
+    let s = after-mark-selected c in
+    let g = entry s .pre .1 in
     (omega (arith, g .1 .kind .size, g .3 .few), omega (arith, g .1 .kind .size, s .mark-selected .ensures (g .0) (g .1) .room))
 
 returns : tie.Need-returns
 returns c =
     let way = c .before in
-    let link = way .before .before .before .before in
+    let link = after-link way in
     let read = link .before .before .before in
     let holder = read .before .before .before in
     let chosen = holder .before in (

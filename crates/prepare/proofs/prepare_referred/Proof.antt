@@ -6,9 +6,13 @@ use Rattle.prepare.proofs.prepare_referred.Tie as tie
 returns : tie.Need-returns
 returns c = (λ doc t w k. absurd (c .if1 .taken (eqb-true _ 3 k)), λ doc t w s. (_, s))
 
+-- from the other arm of `if1` back to the start
+abbrev entry : tie.Else1 → tie.Start
+entry c = c .before .before .before .before .before .before
+
 prepare-requires : tie.Need-prepare-requires
 prepare-requires c κs =
-    let p = c .before .before .before .before .before .before .pre in
+    let p = entry c .pre in
     (p .0 (eq-eqb _ 3 (c .if1 .left)), p .1)
 
 returns-2 : tie.Need-returns-2

@@ -25,8 +25,12 @@ abbrev μ-loop : tie.MeasureT-loop
 loop-holds : tie.Need-loop-holds Inv-loop μ-loop
 loop-holds c = (refl, refl, search needs, rw sub-zero, kept-none _ _ _)
 
+-- from the head of the loop back to the start
+abbrev entry : tie.At-loop Inv-loop μ-loop → tie.Start Inv-loop μ-loop
+entry c = c .before .before .before .before
+
 record-in-requires : tie.Need-record-in-requires Inv-loop μ-loop
-record-in-requires c κs = row (c .before .before .before .before .before .pre .0) (c .loop-test .taken)
+record-in-requires c κs = row (entry (c .before) .pre .0) (c .loop-test .taken)
 
 decode-requires : tie.Need-decode-requires Inv-loop μ-loop
 decode-requires c κs = search needs
@@ -51,7 +55,7 @@ returns c =
     let d = c .before .before .before in
     let p = d .before in
     let l = p .before .before in
-    let s = l .before .before .before .before in
+    let s = entry l in
     let refused = c .before .enum-told .given .1 in
     let told = c .placed .ensures in
     (stops (s .args .image .now) (s .args .n) (l .loop .k) (s .pre .0) (p .before .loop-test .taken) (p .record-in .ensures .bytes) (d .decode .ensures) refused told ∙ l .loop .inv .3, stopped (l .loop .k) refused told)
@@ -76,7 +80,7 @@ loop-again c =
     let d = c .before .before .before in
     let p = d .before in
     let l = p .before .before in
-    let s = l .before .before .before .before in
+    let s = entry l in
     let inv = l .loop .inv in
     let test = p .before .loop-test .taken in
     let sound = c .before .decoded .given .1 in
@@ -97,7 +101,7 @@ same-length-4 c = search needs
 returns-2 : tie.Need-returns-2 Inv-loop μ-loop
 returns-2 c =
     let l = c .before in
-    let s = l .before .before .before .before in
+    let s = entry l in
     (earliest-ends (tells (s .args .image .now)) (s .args .n) (l .loop .k) (c .loop-test .left) ∙ l .loop .inv .3, λ e. kept-all (rulesOf (s .args .image .now)) (s .args .n) (l .loop .inv .2) (c .loop-test .left) (l .loop .inv .4))
 
 pub read-records-spec : {M : Type 1} → statement M

@@ -36,9 +36,13 @@ enum-told-3 c = search needs
 enum-told-4 : tie.Need-enum-told-4
 enum-told-4 c = search needs
 
+-- from `referred2` back to the call of `read-records`
+abbrev after-read-records : tie.After-referred2 → tie.After-read-records
+after-read-records c = c .before .before
+
 returns-2 : tie.Need-returns-2
 returns-2 c =
-    let r = c .before .before .before .before in
+    let r = after-read-records (c .before .before) in
     let n = r .before .before .before in
     let b = n .before in
     bad-record _ (b .before .before .rule-blocks .ensures) (b .enum-told .given .1) (n .table-size .ensures .count) (r .read-records .ensures .0) (c .enum-told4 .given .1)
@@ -55,7 +59,7 @@ read-references-requires c κs = search needs
 returns-3 : tie.Need-returns-3
 returns-3 c =
     let o = c .before .before .before in
-    let r = o .before .before .before .before in
+    let r = after-read-records (o .before .before) in
     let n = r .before .before .before in
     let b = n .before in
     let count = n .table-size .ensures .count in

@@ -16,8 +16,12 @@ put-number-requires c κs = search needs
 same-length : tie.Need-same-length
 same-length c = search needs
 
+-- from `slice-known3` back to the call of `put`
+abbrev after-put : tie.After-slice-known3 → tie.After-put
+after-put c = c .before .before .before .before .before .before
+
 returns : tie.Need-returns
-returns c = puts-then (c .before .before .before .before .before .before .put .ensures) (c .before .before .put-number .ensures)
+returns c = puts-then (after-put c .put .ensures) (c .before .before .put-number .ensures)
 
 pub put-next-spec : {M : Type 1} → statement M
 put-next-spec = tie.close (tie.spec slice-aggregate-put put-requires put-number-requires same-length returns)

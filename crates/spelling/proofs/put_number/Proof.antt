@@ -21,9 +21,13 @@ put-requires c κs = search needs
 same-length : tie.Need-same-length
 same-length c = search needs
 
+-- from `slice-known2` back to the call of `decimal`
+abbrev after-decimal : tie.After-slice-known2 → tie.After-decimal
+after-decimal c = c .before .before .before .before .before
+
 returns : tie.Need-returns
 returns c =
-    let d = c .before .before .before .before .before .decimal in
+    let d = after-decimal c .decimal in
     puts-as (c .before .before .put .ensures) (d .ensures .1 .1 ∙ in-decimal (d .result) (search needs) (d .ensures .1 .0))
 
 pub put-number-spec : {M : Type 1} → statement M

@@ -42,10 +42,14 @@ add-i c = search needs
 loop-less : tie.Need-loop-less Inv-loop μ-loop
 loop-less c = search needs
 
+-- from the call of `key-of` back to the head of the loop
+abbrev head : tie.After-key-of Inv-loop μ-loop → tie.At-loop Inv-loop μ-loop
+head c = c .before .before .before
+
 loop-again : tie.Need-loop-again Inv-loop μ-loop
 loop-again c =
-    let s = c .before .before .before .loop in
-    (omega arith, simp length-set (s .inv .1), keys-store _ _ _ _ (s .inv .2) (s .inv .1) (omega arith) _ (key-at (c .before .before .before .before .args .value .now) _ _ _ (search needs) (c .key-of .ensures)))
+    let s = head c .loop in
+    (omega arith, simp length-set (s .inv .1), keys-store _ _ _ _ (s .inv .2) (s .inv .1) (omega arith) _ (key-at (head c .before .args .value .now) _ _ _ (search needs) (c .key-of .ensures)))
 
 returns : tie.Need-returns Inv-loop μ-loop
 returns c =

@@ -18,15 +18,19 @@ chain-requires c κs = search needs
 slice-aggregate-represent-chained : tie.Need-slice-aggregate-represent-chained
 slice-aggregate-represent-chained c = search needs
 
+-- from `lower2` back to the call of `keys`
+abbrev after-keys : tie.After-lower2 → tie.After-keys
+after-keys c = c .before .before .before .before
+
 represent-chained-requires : tie.Need-represent-chained-requires
 represent-chained-requires c κs =
-    let p = c .before .before .before .before .before .before .before .pre in
+    let p = after-keys c .before .before .before .pre in
     let even = even-of _ _ _ _ (p .1) (p .2) in
-    (even, by-value _ _ _ even _ _ _ _ (c .before .before .before .before .keys .ensures) (c .before .before .chain .ensures))
+    (even, by-value _ _ _ even _ _ _ _ (after-keys c .keys .ensures) (c .before .before .chain .ensures))
 
 returns : tie.Need-returns
 returns c =
-    let p = c .before .before .before .before .before .before .before .before .pre in
+    let p = after-keys (c .before) .before .before .before .pre in
     let r = c .represent-chained .ensures in
     λ doc v. represents doc _ _ _ v _ (omega (arith, r .0, even-of _ _ _ _ (p .1) (p .2) .few)) (r .1)
 

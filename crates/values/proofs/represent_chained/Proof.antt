@@ -21,9 +21,13 @@ loop-holds c = (omega arith, refl, chosen-none _ _)
 slice-aggregate-representative : tie.Need-slice-aggregate-representative Inv-loop μ-loop
 slice-aggregate-representative c = search needs
 
+-- from the head of the loop back to the start
+abbrev entry : tie.At-loop Inv-loop μ-loop → tie.Start Inv-loop μ-loop
+entry c = c .before .before .before .before
+
 representative-requires : tie.Need-representative-requires Inv-loop μ-loop
 representative-requires c κs =
-    let p = c .before .before .before .before .before .before .pre in
+    let p = entry (c .before .before) .pre in
     let s = c .before .before .loop .inv in
     (p .0, p .1, omega (arith, p .0 .few, s .1), c .before .loop-test .taken, s .2)
 
@@ -41,14 +45,14 @@ loop-less c = search needs
 
 loop-again : tie.Need-loop-again Inv-loop μ-loop
 loop-again c =
-    let p = c .before .before .before .before .before .before .before .pre in
+    let p = entry (c .before .before .before) .pre in
     let s = c .before .before .before .loop .inv in
     (omega arith, simp length-set (s .1), chosen-more _ _ _ _ (s .2) (omega (arith, p .0 .few, s .1)) (c .representative .ensures))
 
 returns : tie.Need-returns Inv-loop μ-loop
 returns c =
     let s = c .before .loop in
-    let e : s .f ≡ length (c .before .before .before .before .before .args .kind .now) = omega arith in
+    let e : s .f ≡ length (entry (c .before) .args .kind .now) = omega arith in
     (s .inv .1, rw e at (s .inv .2))
 
 pub represent-chained-spec : {M : Type 1} → statement M

@@ -28,14 +28,26 @@ shared-slice-read-index c = search needs
 index-requires : tie.Need-index-requires Inv-loop μ-loop
 index-requires c κs = search needs
 
+-- from the call of `same-value` back to the head of the loop
+abbrev head : tie.After-same-value Inv-loop μ-loop → tie.At-loop Inv-loop μ-loop
+head c = c .before .before
+
+-- from the head of the loop back to the other arm of `if1`
+abbrev else1 : tie.At-loop Inv-loop μ-loop → tie.Else1 Inv-loop μ-loop
+else1 c = c .before .before .before
+
+-- from the call of `index` back to the start
+abbrev entry : tie.After-index Inv-loop μ-loop → tie.Start Inv-loop μ-loop
+entry c = c .before .before .before .before .before .before .before .before
+
 loop-holds : tie.Need-loop-holds Inv-loop μ-loop
-loop-holds c = let p = c .before .before .before .before .before .before .before .before .pre in (p .1, falling-start _ _ (p .1) _ (p .3) (c .before .before .if1 .left) _ (c .index .ensures))
+loop-holds c = let p = entry c .pre in (p .1, falling-start _ _ (p .1) _ (p .3) (c .before .before .if1 .left) _ (c .index .ensures))
 
 sub-same-value : tie.Need-sub-same-value Inv-loop μ-loop
 sub-same-value c = search needs
 
 same-value-requires : tie.Need-same-value-requires Inv-loop μ-loop
-same-value-requires c κs = let p = c .before .before .before .before .before .before .before .before .before .before .pre in (omega arith, omega arith, omega (arith, p .0 .vkind, c .before .loop .inv .1 .low))
+same-value-requires c κs = let p = entry (c .before .before) .pre in (omega arith, omega arith, omega (arith, p .0 .vkind, c .before .loop .inv .1 .low))
 
 sub-result : tie.Need-sub-result Inv-loop μ-loop
 sub-result c = search needs
@@ -49,9 +61,10 @@ shared-slice-read-result c = search needs
 returns-2 : tie.Need-returns-2 Inv-loop μ-loop
 unfolding sameValue
 returns-2 c =
-    let p = c .before .before .before .before .before .before .before .before .before .before .before .before .before .pre in
-    let s = c .before .before .before .before .loop .inv in
-    falling-hit _ _ (s .0) _ (p .3) (c .before .before .before .before .before .before .before .if1 .left) _ (s .1) (omega arith) _ (p .4) _ (c .before .before .same-value .ensures) (c .before .if2 .taken)
+    let top = head (c .before .before) in
+    let p = entry (top .before) .pre in
+    let s = top .loop .inv in
+    falling-hit _ _ (s .0) _ (p .3) (else1 top .if1 .left) _ (s .1) (omega arith) _ (p .4) _ (c .before .before .same-value .ensures) (c .before .if2 .taken)
 
 sub-index : tie.Need-sub-index Inv-loop μ-loop
 sub-index c = search needs
@@ -67,25 +80,27 @@ index-requires-2 c κs = search needs
 
 loop-less : tie.Need-loop-less Inv-loop μ-loop
 loop-less c =
-    let p = c .before .before .before .before .before .before .before .before .before .before .before .before .before .before .pre in
-    let s = c .before .before .before .before .before .loop .inv in
-    falling-less _ _ (s .0) _ (p .3) (c .before .before .before .before .before .before .before .before .if1 .left) _ (s .1) (omega arith) _ (c .index2 .ensures)
+    let top = head (c .before .before .before) in
+    let p = entry (top .before) .pre in
+    let s = top .loop .inv in
+    falling-less _ _ (s .0) _ (p .3) (else1 top .if1 .left) _ (s .1) (omega arith) _ (c .index2 .ensures)
 
 loop-again : tie.Need-loop-again Inv-loop μ-loop
 unfolding sameValue
 loop-again c =
-    let p = c .before .before .before .before .before .before .before .before .before .before .before .before .before .before .pre in
-    let s = c .before .before .before .before .before .loop .inv in
-    (s .0, falling-next _ _ (s .0) _ (p .3) (c .before .before .before .before .before .before .before .before .if1 .left) _ (s .1) (omega arith) _ (c .index2 .ensures) _ (c .before .before .before .same-value .ensures) (c .before .before .if2 .left))
+    let top = head (c .before .before .before) in
+    let p = entry (top .before) .pre in
+    let s = top .loop .inv in
+    (s .0, falling-next _ _ (s .0) _ (p .3) (else1 top .if1 .left) _ (s .1) (omega arith) _ (c .index2 .ensures) _ (c .before .before .before .same-value .ensures) (c .before .before .if2 .left))
 
 cast-result : tie.Need-cast-result Inv-loop μ-loop
 cast-result c = search needs
 
 returns-3 : tie.Need-returns-3 Inv-loop μ-loop
 returns-3 c =
-    let p = c .before .before .before .before .before .before .before .before .before .before .pre in
+    let p = entry (c .before .before) .pre in
     let s = c .before .loop .inv in
-    falling-end _ _ (s .0) _ (p .3) (c .before .before .before .before .if1 .left) _ (s .1) (c .loop-test .left)
+    falling-end _ _ (s .0) _ (p .3) (else1 (c .before) .if1 .left) _ (s .1) (c .loop-test .left)
 
 pub representative-spec : {M : Type 1} → statement M
 representative-spec =

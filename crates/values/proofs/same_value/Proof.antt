@@ -28,9 +28,13 @@ shared-slice-copy-out-same-2 c = search needs
 same-requires : tie.Need-same-requires
 same-requires c κs = search needs
 
+-- from the call of `same` back to the start
+abbrev entry : tie.After-same → tie.Start
+entry c = c .before .before .before .before .before .before
+
 returns : tie.Need-returns
 returns c =
-    let a = c .before .before .before .before .before .before .args in
+    let a = entry c .args in
     compared (held [] (a .vkind .now) (a .value .now)) (a .f) (a .g) _ (search (needs, signs))
 
 pub same-value-spec : {M : Type 1} → statement M

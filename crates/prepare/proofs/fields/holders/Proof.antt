@@ -21,14 +21,18 @@ abbrev μ-loop : tie.MeasureT-loop
 loop-holds : tie.Need-loop-holds Inv-loop μ-loop
 loop-holds c = (omega arith, refl, λ doc t. filled-none _ _)
 
+-- from the head of the loop back to the start
+abbrev entry : tie.At-loop Inv-loop μ-loop → tie.Start Inv-loop μ-loop
+entry c = c .before .before .before .before
+
 holder-requires : tie.Need-holder-requires Inv-loop μ-loop
-holder-requires c κs = (c .loop-test .taken, c .before .before .before .before .before .pre)
+holder-requires c κs = (c .loop-test .taken, entry (c .before) .pre)
 
 mul-out : tie.Need-mul-out Inv-loop μ-loop
-mul-out c = omega (arith, tree-few _ _ _ (c .before .before .before .before .before .before .pre))
+mul-out c = omega (arith, tree-few _ _ _ (entry (c .before .before) .pre))
 
 array-write-out : tie.Need-array-write-out Inv-loop μ-loop
-array-write-out c = omega (arith, tree-few _ _ _ (c .before .before .before .before .before .before .pre))
+array-write-out c = omega (arith, tree-few _ _ _ (entry (c .before .before) .pre))
 
 add-i : tie.Need-add-i Inv-loop μ-loop
 add-i c = search needs
@@ -39,13 +43,13 @@ loop-less c = search needs
 loop-again : tie.Need-loop-again Inv-loop μ-loop
 loop-again c =
     let s = c .before .before .loop in
-    let few = tree-few _ _ _ (c .before .before .before .before .before .before .pre) in
+    let few = tree-few _ _ _ (entry (c .before .before) .pre) in
     (omega arith, simp length-set (s .inv .1), λ doc t. filled-store _ (s .inv .2 doc t) (omega arith) _ (c .holder .ensures doc _ t refl))
 
 returns : tie.Need-returns Inv-loop μ-loop
 returns c =
     let s = c .before .loop in
-    let few = tree-few _ _ _ (c .before .before .before .before .before .pre) in
+    let few = tree-few _ _ _ (entry (c .before) .pre) in
     λ doc t. filled-holders doc _ _ _ (s .inv .2 doc t) (omega (arith, t .kind .size)) (omega (arith, t .kind .size))
 
 pub holders-spec : {M : Type 1} → statement M

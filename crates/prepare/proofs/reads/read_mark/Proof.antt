@@ -7,8 +7,12 @@ use Rattle.prepare.proofs.reads.read_mark.Tie as tie
 shared-slice-read-if1 : tie.Need-shared-slice-read-if1
 shared-slice-read-if1 c = search needs
 
+-- from `shared-slice-known3` back to the start
+abbrev entry : tie.After-shared-slice-known3 → tie.Start
+entry c = c .before .before .before
+
 returns : tie.Need-returns
-returns c = let s = c .before .before .before .before in λ doc rule all m h. reads-selected doc rule _ all _ _ m h _ (s .pre .0) (c .if1 .taken)
+returns c = let s = entry (c .before) in λ doc rule all m h. reads-selected doc rule _ all _ _ m h _ (s .pre .0) (c .if1 .taken)
 
 mul-index : tie.Need-mul-index
 mul-index c = search needs
@@ -26,13 +30,13 @@ returns-2 : tie.Need-returns-2
 returns-2 c =
     let i = c .before .before in
     let e = i .before .before in
-    λ doc rule all m h. reads-holder doc rule _ all _ _ m h _ (e .before .before .before .before .pre .0) (e .if1 .left) _ (i .index .ensures) (c .before .if2 .taken)
+    λ doc rule all m h. reads-holder doc rule _ all _ _ m h _ (entry (e .before) .pre .0) (e .if1 .left) _ (i .index .ensures) (c .before .if2 .taken)
 
 returns-3 : tie.Need-returns-3
 returns-3 c =
     let i = c .before in
     let e = i .before .before in
-    λ doc rule all m h. reads-none doc rule _ all _ _ m h _ (e .before .before .before .before .pre .0) (e .if1 .left) _ (i .index .ensures) (c .if2 .left)
+    λ doc rule all m h. reads-none doc rule _ all _ _ m h _ (entry (e .before) .pre .0) (e .if1 .left) _ (i .index .ensures) (c .if2 .left)
 
 pub read-mark-spec : {M : Type 1} → statement M
 read-mark-spec =

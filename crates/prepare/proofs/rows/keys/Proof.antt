@@ -56,9 +56,13 @@ add-f c = search needs
 loop-less : tie.Need-loop-less Inv-loop μ-loop
 loop-less c = search needs
 
+-- from the call of `key` back to the head of the loop
+abbrev head : tie.After-key Inv-loop μ-loop → tie.At-loop Inv-loop μ-loop
+head c = c .before .before .before .before .before
+
 loop-again : tie.Need-loop-again Inv-loop μ-loop
 loop-again c =
-    let s = c .before .before .before .before .before .loop in
+    let s = head c .loop in
     let value = given w32 (c .before .before .wanted-arg .given) in (
       omega arith,
       simp length-set (s .inv .1),

@@ -14,10 +14,14 @@ slice-aggregate-chain c = search needs
 chain-requires : tie.Need-chain-requires
 chain-requires c κs = search needs
 
+-- from the call of `keys` back to the start
+abbrev entry : tie.After-keys → tie.Start
+entry c = c .before .before .before .before .before
+
 returns : tie.Need-returns
 returns c =
     let k = c .before .before in
-    let g = k .before .before .before .before .before .pre .2 in
+    let g = entry k .pre .2 in
     λ doc v m h. linked doc _ _ _ _ _ (v .kind) (omega (arith, g .1 .kind .size, g .2 .few)) (k .keys .ensures doc (v .vkind) (v .value) m h) (c .chain .ensures)
 
 pub link-spec : {M : Type 1} → statement M

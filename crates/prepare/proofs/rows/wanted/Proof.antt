@@ -17,11 +17,15 @@ returns-2 c = λ doc f w q. wants-any doc _ f _ w (c .before .before .if1 .left)
 in-range-requires : tie.Need-in-range-requires
 in-range-requires c κs = search needs
 
+-- from the other arm of `if2` back to the start
+abbrev entry : tie.Else2 → tie.Start
+entry c = c .before .before .before .before .before
+
 returns-3 : tie.Need-returns-3
 returns-3 c =
     let e = c .before .before .before in
     let told = c .before .struct-told2 .given .1 .1 .1 .1 .1 .1 .1 in
-    let s = e .before .before .before .before .before in
+    let s = entry e in
     let low = given w32 {z = s .args .rule .low} (told .0 .1) in
     let high = given w32 {z = s .args .rule .high} (told .1 .0 .1) in
     let fits = heard-range (c .in-range .ensures) (toZ-ofZ (s .fits .value)) low high in

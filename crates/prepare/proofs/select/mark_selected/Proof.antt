@@ -22,11 +22,15 @@ abbrev μ-loop : tie.MeasureT-loop
 loop-holds : tie.Need-loop-holds Inv-loop μ-loop
 loop-holds c = (omega arith, refl, λ doc t. filled-none _ _)
 
+-- from the head of the loop back to the start
+abbrev entry : tie.At-loop Inv-loop μ-loop → tie.Start Inv-loop μ-loop
+entry c = c .before .before .before .before
+
 selected-mark-requires : tie.Need-selected-mark-requires Inv-loop μ-loop
-selected-mark-requires c κs = let p = c .before .before .before .before .before .pre in (c .loop-test .taken, p .0, p .1)
+selected-mark-requires c κs = let p = entry (c .before) .pre in (c .loop-test .taken, p .0, p .1)
 
 array-write-marks : tie.Need-array-write-marks Inv-loop μ-loop
-array-write-marks c = omega (arith, tree-few _ _ _ (c .before .before .before .before .before .before .pre .1))
+array-write-marks c = omega (arith, tree-few _ _ _ (entry (c .before .before) .pre .1))
 
 add-i : tie.Need-add-i Inv-loop μ-loop
 add-i c = search needs
@@ -37,13 +41,13 @@ loop-less c = search needs
 loop-again : tie.Need-loop-again Inv-loop μ-loop
 loop-again c =
     let s = c .before .before .loop in
-    let few = tree-few _ _ _ (c .before .before .before .before .before .before .pre .1) in
+    let few = tree-few _ _ _ (entry (c .before .before) .pre .1) in
     (omega arith, simp length-set (s .inv .1), λ doc t. filled-store _ (s .inv .2 doc t) (omega arith) _ (c .selected-mark .ensures doc t))
 
 returns : tie.Need-returns Inv-loop μ-loop
 returns c =
     let s = c .before .loop in
-    let few = tree-few _ _ _ (c .before .before .before .before .before .pre .1) in
+    let few = tree-few _ _ _ (entry (c .before) .pre .1) in
     λ doc t. filled-marks _ _ _ _ (s .inv .2 doc t) (omega (arith, t .kind .size)) (omega (arith, t .kind .size))
 
 pub mark-selected-spec : {M : Type 1} → statement M

@@ -22,8 +22,16 @@ abbrev μ-loop : tie.MeasureT-loop
 cast-k : tie.Need-cast-k Inv-loop μ-loop
 cast-k c = search needs
 
+-- from the other arm of `if2` back to the call of `index`
+abbrev after-index : tie.Else2 Inv-loop μ-loop → tie.After-index Inv-loop μ-loop
+after-index c = c .before .before .before .before
+
+-- from `struct-known` back to the start
+abbrev entry : tie.After-struct-known Inv-loop μ-loop → tie.Start Inv-loop μ-loop
+entry c = c .before .before .before .before
+
 loop-holds : tie.Need-loop-holds Inv-loop μ-loop
-loop-holds c = let s = c .before .before .before .before in (s .pre .1, s .pre .0, λ doc rule u w. refl)
+loop-holds c = let s = entry c in (s .pre .1, s .pre .0, λ doc rule u w. refl)
 
 sub-k : tie.Need-sub-k Inv-loop μ-loop
 sub-k c = search needs
@@ -67,10 +75,10 @@ returns-2 c =
     λ doc u. climb-root doc _ _ u _ _ _ refl _ (l .loop-test .taken) _ (i .index .ensures) _ (n .name-fits .ensures) (c .before .if1 .left) (c .if2 .taken) ∙ l .before .loop .inv .2 doc _ u refl
 
 mul-index-2 : tie.Need-mul-index-2 Inv-loop μ-loop
-mul-index-2 c = let i = c .before .before .before .before in omega (arith, standing-item _ _ _ (i .before .before .before .loop .inv .1) _ (i .index .ensures) .1)
+mul-index-2 c = let i = after-index c in omega (arith, standing-item _ _ _ (i .before .before .before .loop .inv .1) _ (i .index .ensures) .1)
 
 shared-slice-read-index-2 : tie.Need-shared-slice-read-index-2 Inv-loop μ-loop
-shared-slice-read-index-2 c = let i = c .before .before .before .before .before in standing-item _ _ _ (i .before .before .before .loop .inv .1) _ (i .index .ensures) .1
+shared-slice-read-index-2 c = let i = after-index (c .before) in standing-item _ _ _ (i .before .before .before .loop .inv .1) _ (i .index .ensures) .1
 
 index-requires-2 : tie.Need-index-requires-2 Inv-loop μ-loop
 index-requires-2 c κs = search needs

@@ -11,8 +11,12 @@ shared-slice-read-if1 c = search needs
 returns : tie.Need-returns
 returns c = λ doc t. no-version _ _ _ doc t _ _ (c .if1 .taken)
 
+-- from the other arm of `if1` back to the start
+abbrev entry : tie.Else1 → tie.Start
+entry c = c .before .before .before .before .before
+
 path-fits-requires : tie.Need-path-fits-requires
-path-fits-requires c κs = let s = c .before .before .before .before .before in (tree-standing _ _ _ (s .pre .2) _ (c .if1 .left), s .pre .1)
+path-fits-requires c κs = let s = entry c in (tree-standing _ _ _ (s .pre .2) _ (c .if1 .left), s .pre .1)
 
 returns-2 : tie.Need-returns-2
 returns-2 c =

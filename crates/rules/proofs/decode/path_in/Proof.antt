@@ -28,10 +28,14 @@ two-at-requires-7 c κs = search needs
 two-at-requires-8 : tie.Need-two-at-requires-8
 two-at-requires-8 c κs = search needs
 
+-- from the call of `two-at5` back to the call of `two-at`
+abbrev after-two-at : tie.After-two-at5 → tie.After-two-at
+after-two-at c = c .before .before .before .before
+
 returns : tie.Need-returns
 returns c =
     let b = c .before .before .before in
-    let a = b .before .before .before .before in
+    let a = after-two-at b in
     names (a .before .before .args .part .now) (a .two-at .ensures) (b .before .before .before .two-at2 .ensures) (b .before .before .two-at3 .ensures) (b .before .two-at4 .ensures) (b .two-at5 .ensures)
     (c .before .before .two-at6 .ensures) (c .before .two-at7 .ensures) (c .two-at8 .ensures)
 

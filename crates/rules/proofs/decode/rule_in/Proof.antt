@@ -49,13 +49,21 @@ shared-slice-read-t19 c = search needs
 two-at-requires-6 : tie.Need-two-at-requires-6
 two-at-requires-6 c κs = search needs
 
+-- from the call of `two-at6` back to the call of `two-at3`
+abbrev after-two-at3 : tie.After-two-at6 → tie.After-two-at3
+after-two-at3 c = c .before .before .before .before
+
+-- from the call of `two-at` back to the call of `path-in`
+abbrev after-path-in : tie.After-two-at → tie.After-path-in
+after-path-in c = c .before .before .before .before .before
+
 returns : tie.Need-returns
 returns c =
-    let b = c .before .before .before .before in
+    let b = after-two-at3 c in
     let h = b .before in
     let l = h .before in
     let f = l .before .before in
-    fields _ (f .before .before .before .before .before .path-in .ensures) (f .two-at .ensures) (l .before .two-at2 .ensures) (given w32 (l .signed-at .ok) ∙ l .signed-at .ensures)
+    fields _ (after-path-in f .path-in .ensures) (f .two-at .ensures) (l .before .two-at2 .ensures) (given w32 (l .signed-at .ok) ∙ l .signed-at .ensures)
     (given w32 (h .signed-at2 .ok) ∙ h .signed-at2 .ensures) (b .two-at3 .ensures) (c .before .before .before .two-at4 .ensures) (c .before .before .two-at5 .ensures)
     (c .two-at6 .ensures)
 

@@ -19,8 +19,12 @@ part-all-zero-end c = search needs
 all-zero-requires : tie.Need-all-zero-requires
 all-zero-requires c κs = search needs
 
+-- from the call of `all-zero` back to the start
+abbrev entry : tie.After-all-zero → tie.Start
+entry c = c .before .before .before .before
+
 returns : tie.Need-returns
-returns c = spare _ (c .before .before .before .before .pre) (c .all-zero .ensures)
+returns c = spare _ (entry c .pre) (c .all-zero .ensures)
 
 pub spare-in-spec : {M : Type 1} → statement M
 spare-in-spec =

@@ -13,9 +13,17 @@ is-zero-requires c κs = search needs
 is-zero-requires-2 : tie.Need-is-zero-requires-2
 is-zero-requires-2 c κs = search needs
 
+-- from the call of `is-zero2` back to the call of `at-most`
+abbrev after-at-most-from-is-zero2 : tie.After-is-zero2 → tie.After-at-most
+after-at-most-from-is-zero2 c = c .before .before .before .before .before .before
+
+-- from the call of `at-least-zero` back to the call of `at-most`
+abbrev after-at-most : tie.After-at-least-zero → tie.After-at-most
+after-at-most c = c .before .before .before .before .before
+
 returns : tie.Need-returns
 returns c =
-    let m = c .before .before .before .before .before .before in
+    let m = after-at-most-from-is-zero2 c in
     let low = m .before .struct-told2 .given .1 .1 .1 .1 .1 .1 .1 in
     no-bounds _ (low .0 .1) (low .1 .0 .1) (m .at-most .ensures) (search needs) (c .before .before .is-zero .ensures) (c .is-zero2 .ensures)
 
@@ -24,7 +32,7 @@ at-least-zero-requires c κs = search needs
 
 returns-2 : tie.Need-returns-2
 returns-2 c =
-    let m = c .before .before .before .before .before in
+    let m = after-at-most c in
     let low = m .before .struct-told2 .given .1 .1 .1 .1 .1 .1 .1 in
     some-bounds _ (low .0 .1) (low .1 .0 .1) (m .at-most .ensures) (search needs) (c .at-least-zero .ensures)
 

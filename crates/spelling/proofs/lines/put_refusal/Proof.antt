@@ -27,9 +27,21 @@ put-requires-2 c κs = search needs
 same-length : tie.Need-same-length
 same-length c = search needs
 
+-- from `slice-known5` back to the call of `put-next2`
+abbrev after-put-next2 : tie.After-slice-known5 → tie.After-put-next2
+after-put-next2 c = c .before .before .before .before .before .before .before
+
+-- from `slice-known5` back to the call of `put-next`
+abbrev after-put-next : tie.After-slice-known5 → tie.After-put-next
+after-put-next c = after-put-next2 c .before .before .before .before
+
+-- from `slice-known5` back to the call of `put`
+abbrev after-put : tie.After-slice-known5 → tie.After-put
+after-put c = after-put-next c .before .before .before .before
+
 returns : tie.Need-returns
 unfolding refusedLine word
-returns c = puts-then (puts-then (puts-then (c .before .before .before .before .before .before .before .before .before .before .before .before .before .before .before .put .ensures) (c .before .before .before .before .before .before .before .before .before .before .before .put-next .ensures)) (c .before .before .before .before .before .before .before .put-next2 .ensures)) (c .before .before .put2 .ensures)
+returns c = puts-then (puts-then (puts-then (after-put c .put .ensures) (after-put-next c .put-next .ensures)) (after-put-next2 c .put-next2 .ensures)) (c .before .before .put2 .ensures)
 
 pub put-refusal-spec : {M : Type 1} → statement M
 put-refusal-spec =

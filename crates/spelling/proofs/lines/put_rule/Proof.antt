@@ -21,9 +21,17 @@ put-requires c κs = search needs
 same-length : tie.Need-same-length
 same-length c = search needs
 
+-- from `slice-known4` back to the call of `put-verdict`
+abbrev after-put-verdict : tie.After-slice-known4 → tie.After-put-verdict
+after-put-verdict c = c .before .before .before .before .before .before .before
+
+-- from `slice-known4` back to the call of `put-number`
+abbrev after-put-number : tie.After-slice-known4 → tie.After-put-number
+after-put-number c = after-put-verdict c .before .before .before .before
+
 returns : tie.Need-returns
 unfolding ruleLine word
-returns c = puts-then (puts-then (c .before .before .before .before .before .before .before .before .before .before .before .put-number .ensures) (c .before .before .before .before .before .before .before .put-verdict .ensures)) (c .before .before .put .ensures)
+returns c = puts-then (puts-then (after-put-number c .put-number .ensures) (after-put-verdict c .put-verdict .ensures)) (c .before .before .put .ensures)
 
 pub put-rule-spec : {M : Type 1} → statement M
 put-rule-spec =

@@ -55,9 +55,45 @@ put-next-requires-6 c κs = search needs
 same-length : tie.Need-same-length
 same-length c = search needs
 
+-- from `slice-known7` back to the call of `put-next3`
+abbrev after-put-next3 : tie.After-slice-known7 → tie.After-put-next3
+after-put-next3 c = c .before .before .before .before .before .before
+
+-- from `slice-known7` back to the call of `put-next2`
+abbrev after-put-next2 : tie.After-slice-known7 → tie.After-put-next2
+after-put-next2 c = after-put-next3 c .before .before .before .before
+
+-- from `slice-known10` back to the call of `put-next5`
+abbrev after-put-next5 : tie.After-slice-known10 → tie.After-put-next5
+after-put-next5 c = c .before .before .before .before .before .before
+
+-- from `slice-known7` back to the call of `put2`
+abbrev after-put2 : tie.After-slice-known7 → tie.After-put2
+after-put2 c = after-put-next2 c .before .before .before .before
+
+-- from `slice-known10` back to the call of `put3`
+abbrev after-put3 : tie.After-slice-known10 → tie.After-put3
+after-put3 c = after-put-next5 c .before .before .before .before
+
+-- from `slice-known3` back to the call of `put`
+abbrev after-put : tie.After-slice-known3 → tie.After-put
+after-put c = c .before .before .before .before .before .before
+
+-- from `slice-known7` back to `found2`
+abbrev after-found2 : tie.After-slice-known7 → tie.After-found2
+after-found2 c = after-put2 c .before .before .before .before
+
+-- from the call of `put3` back to `found3`
+abbrev after-found3 : tie.After-put3 → tie.After-found3
+after-found3 c = c .before .before .before .before
+
+-- from the call of `put` back to `found`
+abbrev after-found : tie.After-put → tie.After-found
+after-found c = c .before .before .before .before
+
 returns : tie.Need-returns
 unfolding told word
-returns c = puts-as (puts-then (c .before .before .before .before .before .before .put .ensures) (c .before .before .put-next .ensures)) (sym (ap told (c .before .before .before .before .before .before .before .before .before .before .found .given .1)))
+returns c = puts-as (puts-then (after-put c .put .ensures) (c .before .before .put-next .ensures)) (sym (ap told (after-found (after-put c) .found .given .1)))
 
 same-length-2 : tie.Need-same-length-2
 same-length-2 c = search needs
@@ -66,15 +102,15 @@ returns-2 : tie.Need-returns-2
 unfolding told word
 returns-2 c =
     puts-as
-    (puts-then (puts-then (puts-then (c .before .before .before .before .before .before .before .before .before .before .before .before .before .before .put2 .ensures) (c .before .before .before .before .before .before .before .before .before .before .put-next2 .ensures)) (c .before .before .before .before .before .before .put-next3 .ensures)) (c .before .before .put-next4 .ensures))
-    (sym (ap told (c .before .before .before .before .before .before .before .before .before .before .before .before .before .before .before .before .before .before .found2 .given .1)))
+    (puts-then (puts-then (puts-then (after-put2 c .put2 .ensures) (after-put-next2 c .put-next2 .ensures)) (after-put-next3 c .put-next3 .ensures)) (c .before .before .put-next4 .ensures))
+    (sym (ap told (after-found2 c .found2 .given .1)))
 
 same-length-3 : tie.Need-same-length-3
 same-length-3 c = search needs
 
 returns-3 : tie.Need-returns-3
 unfolding told word
-returns-3 c = puts-as (puts-then (puts-then (c .before .before .before .before .before .before .before .before .before .before .put3 .ensures) (c .before .before .before .before .before .before .put-next5 .ensures)) (c .before .before .put-next6 .ensures)) (sym (ap told (c .before .before .before .before .before .before .before .before .before .before .before .before .before .before .found3 .given .1)))
+returns-3 c = puts-as (puts-then (puts-then (after-put3 c .put3 .ensures) (after-put-next5 c .put-next5 .ensures)) (c .before .before .put-next6 .ensures)) (sym (ap told (after-found3 (after-put3 c) .found3 .given .1)))
 
 pub put-verdict-spec : {M : Type 1} → statement M
 put-verdict-spec =

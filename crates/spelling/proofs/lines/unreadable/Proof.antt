@@ -24,9 +24,17 @@ put-requires-3 c κs = search needs
 same-length : tie.Need-same-length
 same-length c = search needs
 
+-- from `slice-known4` back to the call of `put2`
+abbrev after-put2 : tie.After-slice-known4 → tie.After-put2
+after-put2 c = c .before .before .before .before .before .before .before
+
+-- from `slice-known4` back to the call of `put`
+abbrev after-put : tie.After-slice-known4 → tie.After-put
+after-put c = after-put2 c .before .before .before .before
+
 returns : tie.Need-returns
 unfolding unreadableLine word
-returns c = puts-then (puts-then (c .before .before .before .before .before .before .before .before .before .before .before .put .ensures) (c .before .before .before .before .before .before .before .put2 .ensures)) (c .before .before .put3 .ensures)
+returns c = puts-then (puts-then (after-put c .put .ensures) (after-put2 c .put2 .ensures)) (c .before .before .put3 .ensures)
 
 pub unreadable-spec : {M : Type 1} → statement M
 unreadable-spec =
