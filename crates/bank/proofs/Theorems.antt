@@ -6,6 +6,7 @@ use Prim.Native.Nat.{ℕ, _+_, _*_, _≤_, _<_}
 use native.Mathlib.Omega.{arith}
 use lib.Dec.{leb}
 use lib.ListN.{length, drop}
+use Rattle.meaning.specs.Block.{limit}
 use Rattle.meaning.specs.declared.Rule.{Rule}
 use Rattle.meaning.specs.declared.Reading.the-variants.{Accepted, Refused}
 use Rattle.meaning.specs.declared.Verdict.{Verdict}
@@ -354,14 +355,14 @@ change-days-room nodes rules k lent y after c w s h =
     let t = enough-days (docOf nodes) (sound-accepted (docOf nodes) (w .nodes-sound .document)) (referredBy (rulesOf rules) k) (ruleAt (rulesOf rules) k) in
     changes-refusals nodes rules k lent y after c .given .1 (w, s, omega (arith, t .few))
 
--- So 2,001 entries have room for every list of change days, ..
+-- So a lent list with two entries for each record that there can be, and one, has room for every list of change days, ..
 pub change-days-room-any : (nodes rules : List ℕ) (k : ℕ) (lent : List ℕ) (y : Listed) (after : List ℕ) → ChangesPromise nodes rules k lent y after
-    → Answerable nodes rules k → Sequenced (ruleAt (rulesOf rules) k) → 2001 ≤ length lent → (m : ℕ) × (y ≡ Stored m)
+    → Answerable nodes rules k → Sequenced (ruleAt (rulesOf rules) k) → 2 * limit + 1 ≤ length lent → (m : ℕ) × (y ≡ Stored m)
 unfolding changesOf
 change-days-room-any nodes rules k lent y after c w s h =
     changes-refusals nodes rules k lent y after c .given .1 (w, s, omega (arith, days-most nodes (w .nodes-sound) (referredBy (rulesOf rules) k) (ruleAt (rulesOf rules) k)))
 
--- .. and 1,000 for every slice.
+-- .. and one with an entry for each for every slice.
 pub slice-room : (nodes : List ℕ) (d : ℕ) (lent : List ℕ) (x : Listed) (after : List ℕ) → SlicePromise nodes d lent x after
-    → SoundNodes nodes → d ≤ 36524 → 1000 ≤ length lent → (m : ℕ) × (x ≡ Stored m)
+    → SoundNodes nodes → d ≤ 36524 → limit ≤ length lent → (m : ℕ) × (x ≡ Stored m)
 slice-room nodes d lent x after p n l h = slice-refusals nodes d lent x after p .given .1 (n, l, omega (arith, slice-most nodes n d))

@@ -6,12 +6,9 @@ ghost use mathlib.Core.Path.{_≡_};
 ghost use Rattle.report.specs.Text.{reportOf};
 
 // The largest good files, and one byte more, so that a longer file is refused by its length.
-const NODES_ROOM: usize = 20481;
+const NODES_ROOM: usize = 512 * block::NODES.most + 1;
 
-const RULES_ROOM: usize = 5121;
-
-// No report is longer (`report/proofs/Theorems.antt`).
-const TEXT_ROOM: usize = 9031;
+const RULES_ROOM: usize = 512 * block::RULES.most + 1;
 
 // Writes the report on two images: nothing else may be given to it.
 fn write_report(nodes: &[u8], rules: &[u8], text: &[u8])
@@ -21,14 +18,14 @@ fn write_report(nodes: &[u8], rules: &[u8], text: &[u8])
 }
 
 fn print_report(nodes: &[u8], rules: &[u8]) {
-    let mut text = [0u8; TEXT_ROOM];
+    let mut text = [0u8; report::ROOM];
     let end = report::report(&mut text, nodes, rules);
     write_report(nodes, rules, spelling::front(&text, end));
 }
 
 // Prints the line of a file that cannot be read.
 fn print_unreadable(name: &[u8]) {
-    let mut text = [0u8; TEXT_ROOM];
+    let mut text = [0u8; report::ROOM];
     let end = spelling::lines::unreadable(&mut text, name);
     io::write_all(STDOUT_FILENO, spelling::front(&text, end));
 }

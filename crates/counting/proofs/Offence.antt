@@ -13,7 +13,7 @@ use borrow.Author.Tests.{eqb-true, eq-eqb}
 use Rattle.meaning.specs.declared.Rule.{Rule}
 use Rattle.meaning.specs.Walk.{any, count, first}
 use Rattle.meaning.specs.Document.{Doc, isVersion, above, numberOf}
-use Rattle.meaning.specs.Rules.{isSequenced}
+use Rattle.meaning.specs.Rules.{byKind, isSequenced}
 use Rattle.meaning.specs.Select.{selected, fieldOf, valued, sameValue, within, present, gives}
 use Rattle.meaning.specs.Window.{Window, meets, under, counts, cardinalityIn, breaksIn, offendsIn}
 use Rattle.meaning.proofs.Basics.{went, tests-same, and-l, and-r, and-same, both}
@@ -135,7 +135,7 @@ module _ (doc : Doc) (judgeable : Judgeable doc) (w : Window) where
 
       offends-is : (q : Rule) (distinct : Bool) (low high : ℕ) → Terms r distinct low high → (v : ℕ)
           → offending (selected doc r) p (λ u. breaks p (doc .size) rep distinct low high (inGroup doc r (numberOf doc u))) v ≡ offendsIn doc (meets doc w) q r v
-      unfolding offendsIn breaksIn present
+      unfolding offendsIn byKind breaksIn present
       offends-is q distinct low high terms v =
           behind (selected doc r v) (p v) (meets doc w v) _ _ (λ s. touches-meets v (selected-version doc r v s)) (breaks-is distinct low high terms v)
           ∙ sym (ap (breaksIn doc (meets doc w) q r v) (terms .kind))

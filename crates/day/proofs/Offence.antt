@@ -11,7 +11,7 @@ use borrow.Author.Tests.{eqb-true, eq-eqb, ne-eqb}
 use Rattle.meaning.specs.declared.Rule.{Rule}
 use Rattle.meaning.specs.Walk.{any, count, first}
 use Rattle.meaning.specs.Document.{Doc, isVersion}
-use Rattle.meaning.specs.Rules.{isReference, isSequenced}
+use Rattle.meaning.specs.Rules.{byKind, isReference, isSequenced}
 use Rattle.meaning.specs.Select.{selected, fieldOf, valued, isNumber, within, present, gives, has}
 use Rattle.meaning.specs.Day.{alive, values, sharesOnly, taken, key, unique, reference, cardinality, datatype, breaks, offends}
 use Rattle.meaning.proofs.Basics.{and-l, and-same}
@@ -170,7 +170,7 @@ module _ (doc : Doc) (begins ends reps : List ℕ) (periods : Periods doc begins
       most-one w l h = rw (l, h, number-is r w v s) (outside-most 1 (values doc (alive doc d) r v))
 
       breaks-is : (k : ℕ) → r .kind ≡ k → TermsBy r k mode low high → rowBreaks p (doc .size) rep mode low high (inRow doc r v) (seen v) ≡ breaks doc (alive doc d) q r v k
-      unfolding rowBreaks breaks TermsBy wantsBy key unique reference cardinality datatype
+      unfolding rowBreaks byKind breaks TermsBy wantsBy key unique reference cardinality datatype
       breaks-is zero e terms = absurd terms
       breaks-is (suc zero) e terms =
           let w = valued-by 1 e (λ f. refl) in

@@ -9,7 +9,7 @@ use borrow.Author.Tests.{eq-eqb}
 use Rattle.meaning.specs.declared.Rule.{Rule}
 use Rattle.meaning.specs.Walk.{any, count}
 use Rattle.meaning.specs.Document.{Doc, numberOf}
-use Rattle.meaning.specs.Rules.{isReference}
+use Rattle.meaning.specs.Rules.{byKind, isReference}
 use Rattle.meaning.specs.Select.{selected, fieldOf, readsOwn, valued, sameValue, within, isNumber, present, gives, has}
 use Rattle.meaning.specs.Day.{values, sharesOnly, taken, key, unique, reference, cardinality, datatype, breaks, offends}
 use Rattle.meaning.specs.Window.{valueless, shares, sharedIn, keyIn, referenceIn, under, counts, cardinalityIn, follows, jumps, datatypeIn, breaksIn, offendsIn}
@@ -99,7 +99,7 @@ module _ (doc : Doc) (p p′ : ℕ → Bool) where
 
   module _ (q r : Rule) (a : Agree r) (b : isReference r ≡ true → Agree q) where
     breaks-same : (k : ℕ) → r .kind ≡ k → (v : ℕ) → selected doc r v ≡ true → breaks doc p q r v k ≡ breaks doc p′ q r v k
-    unfolding breaks key unique reference cardinality datatype taken
+    unfolding byKind breaks key unique reference cardinality datatype taken
     breaks-same zero e v s = refl
     breaks-same (suc zero) e v s = rw (values-same r a v s, only-same r a r a v s)
     breaks-same (suc (suc zero)) e v s = rw (values-same r a v s, only-same r a r a v s)
@@ -114,7 +114,7 @@ module _ (doc : Doc) (p p′ : ℕ → Bool) where
     offends-agree = fun-ext (λ v. behind r a v _ _ (breaks-same (r .kind) refl v))
 
     breaks-in-same : (k : ℕ) → r .kind ≡ k → (v : ℕ) → breaksIn doc p q r v k ≡ breaksIn doc p′ q r v k
-    unfolding breaksIn keyIn valueless sharedIn referenceIn cardinalityIn datatypeIn
+    unfolding byKind breaksIn keyIn valueless sharedIn referenceIn cardinalityIn datatypeIn
     breaks-in-same zero e v = refl
     breaks-in-same (suc zero) e v = behind r a v _ _ (λ s. rw (gives-same r a v s, shares-same r a r a v s))
     breaks-in-same (suc (suc zero)) e v = behind r a v _ _ (λ s. rw (shares-same r a r a v s))

@@ -6,7 +6,7 @@ use Prim.Native.Nat.{ℕ, suc, _+_, _*_, _%_, _≤_, _<_}
 use lib.ListN.{length, take}
 use Rattle.meaning.specs.declared.Rule.{Rule}
 use Rattle.meaning.specs.Bytes.{byte, four}
-use Rattle.meaning.specs.Block.{ruleForm, blocks, blockAt, counted, recordOf}
+use Rattle.meaning.specs.Block.{nodeForm, ruleForm, blocks, blockAt, counted, recordOf}
 use Rattle.meaning.specs.Document.{Doc, node}
 use Rattle.meaning.specs.Nodes.{docOf}
 use Rattle.meaning.specs.Rules.{ruleAt, rulesOf}
@@ -122,7 +122,7 @@ abbrev pub nodeLines : List ℕ → List Line
 nodeLines image =
     let doc = docOf image in
     joined (
-    (line 1 0 (WrongLength 40 image) ∷ [])
+    (line 1 0 (WrongLength (nodeForm .most) image) ∷ [])
     ∷ each (blocks image) (blockLines 2 3 4 1 25 20 image)
     ∷ each (doc .size) (recordLines doc)
     ∷ each (doc .size) (λ i. line 7 i (Misplaced doc i) ∷ [])

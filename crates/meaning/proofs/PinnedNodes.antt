@@ -1,8 +1,9 @@
 -- Pinned examples of node images: each refusal from 1 to 10 with its place, which of two comes first, and 11 and 12 of a slice.
 use mathlib.Core.Path.{refl}
 use mathlib.Core.List.{List, [], _∷_, _++_}
-use Prim.Native.Nat.{ℕ}
+use Prim.Native.Nat.{ℕ, suc, _*_}
 use lib.ListN.{drop, replicate}
+use Rattle.meaning.specs.Block.{nodeForm}
 use Rattle.meaning.specs.declared.Verdict.the-variants.{Refused as Unjudged}
 use Rattle.meaning.specs.declared.Listed.the-variants.{Stored, Refused as Unlisted}
 use Rattle.meaning.proofs.Asking.{onRule, onSlice, onChanges, told, stored}
@@ -22,12 +23,12 @@ refused image number place = pin image [] (onSlice 20 2) (stored (Unlisted numbe
 
 unfoldable pub nodeBlocks : List Pin
 nodeBlocks =
-    -- 1: no byte, one too few or too many for one block, one block too many; forty go on to the check
+    -- 1: no byte, one too few or too many for one block, one block too many; as many as there can be go on to the check
     refused [] 1 0
     ∷ refused (drop 1 little) 1 0
     ∷ refused (0 ∷ little) 1 0
-    ∷ refused (replicate 20992 0) 1 0
-    ∷ refused (replicate 20480 0) 2 0
+    ∷ refused (replicate (512 * suc (nodeForm .most)) 0) 1 0
+    ∷ refused (replicate (512 * nodeForm .most) 0) 2 0
     -- 2: a byte of the header, of a record, of the rest, of the check
     ∷ refused (put 7 (1 ∷ []) little) 2 0
     ∷ refused (put 88 (1 ∷ []) little) 2 0

@@ -3,13 +3,13 @@ use mathlib.Core.Path.{_≡_, _∙_}
 use mathlib.Core.Logic.{⊎-elim}
 use mathlib.Core.Bool.{Bool}
 use mathlib.Core.List.{List}
-use Prim.Native.Nat.{ℕ, zero, suc, _-_, _≤_}
+use Prim.Native.Nat.{ℕ, zero, suc, _+_, _-_, _*_, _≤_}
 use native.Mathlib.Omega.{arith}
 use lib.ListN.{length, length-map}
 use Rattle.meaning.specs.declared.Node.{Node}
 use Rattle.meaning.specs.declared.Rule.{Rule}
 use Rattle.meaning.specs.Walk.{count}
-use Rattle.meaning.specs.Block.{nodeForm, blocks, records, recordOf}
+use Rattle.meaning.specs.Block.{nodeForm, limit, blocks, records, recordOf}
 use Rattle.meaning.specs.Document.{ofNodes}
 use Rattle.meaning.specs.Nodes.{nodeIn, nodesOf, docOf}
 use Rattle.meaning.specs.Day.{presentOn, slice, changeDays}
@@ -28,8 +28,8 @@ count-most f i (suc n) =
     let rest = count-most f (suc i) n in
     ⊎-elim (λ y. rw y (omega arith)) (λ z. rw z (omega arith)) (went (f i))
 
--- 40 blocks of 25 records
-pub size-most : (image : List ℕ) → SoundNodes image → docOf image .size ≤ 1000
+-- full blocks, as many as an image can have
+pub size-most : (image : List ℕ) → SoundNodes image → docOf image .size ≤ limit
 unfolding docOf ofNodes nodesOf records
 size-most image s =
     let form = s .image-form in
@@ -40,10 +40,10 @@ size-most image s =
     omega (arith, size, last .few, form .few)
 
 -- a slice has at most as many versions as there are records
-pub slice-most : (image : List ℕ) → SoundNodes image → (d : ℕ) → length (slice (docOf image) d) ≤ 1000
+pub slice-most : (image : List ℕ) → SoundNodes image → (d : ℕ) → length (slice (docOf image) d) ≤ limit
 unfolding slice
 slice-most image s d = omega (arith, length-pick (presentOn (docOf image) d) 0 (docOf image .size), count-most (presentOn (docOf image) d) 0 (docOf image .size), size-most image s)
 
 -- two days for each version read, and one
-pub days-most : (image : List ℕ) → SoundNodes image → (q r : Rule) → length (changeDays (docOf image) q r) ≤ 2001
+pub days-most : (image : List ℕ) → SoundNodes image → (q r : Rule) → length (changeDays (docOf image) q r) ≤ 2 * limit + 1
 days-most image s q r = omega (arith, days-few (docOf image) q r, count-most (reads (docOf image) q r) 0 (docOf image .size), size-most image s)

@@ -5,6 +5,7 @@ use mathlib.Core.List.{List}
 use lib.IntN.{pos}
 use lib.Dec.{leb, ltb, eqb}
 use lib.ListN.{length}
+use Rattle.meaning.specs.Rules.{byKind}
 use Rattle.meaning.specs.declared.Found.{Found}
 use Rattle.meaning.specs.declared.Rule.{Rule}
 use Rattle.meaning.specs.declared.Verdict.{Verdict}
@@ -64,12 +65,7 @@ module _ (doc : Doc) (p : ℕ → Bool) where
 
   -- by the rule's kind
   unfoldable pub breaks : Rule → Rule → ℕ → ℕ → Bool
-  breaks q r v zero = false
-  breaks q r v (suc zero) = key r v
-  breaks q r v (suc (suc zero)) = unique r v
-  breaks q r v (suc (suc (suc zero))) = reference q r v
-  breaks q r v (suc (suc (suc (suc zero)))) = cardinality r v
-  breaks q r v (suc (suc (suc (suc (suc k))))) = datatype r v
+  breaks q r v k = byKind (key r) (unique r) (reference q r) (cardinality r) (datatype r) k v
 
   -- version v offends rule r, which refers to q
   unfoldable pub offends : Rule → Rule → ℕ → Bool

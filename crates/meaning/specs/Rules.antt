@@ -30,6 +30,15 @@ isReference r = eqb (r .kind) 3
 abbrev pub isCardinality : Rule → Bool
 isCardinality r = eqb (r .kind) 4
 
+-- a test of versions by a rule's kind: that of a key, a unique, a reference, a cardinality or a datatype
+unfoldable pub byKind : (ℕ → Bool) → (ℕ → Bool) → (ℕ → Bool) → (ℕ → Bool) → (ℕ → Bool) → ℕ → ℕ → Bool
+byKind key unique reference cardinality datatype zero v = false
+byKind key unique reference cardinality datatype (suc zero) v = key v
+byKind key unique reference cardinality datatype (suc (suc zero)) v = unique v
+byKind key unique reference cardinality datatype (suc (suc (suc zero))) v = reference v
+byKind key unique reference cardinality datatype (suc (suc (suc (suc zero)))) v = cardinality v
+byKind key unique reference cardinality datatype (suc (suc (suc (suc (suc k))))) v = datatype v
+
 abbrev pub isSequenced : Rule → Bool
 isSequenced r = eqb (r .windowed) 0
 

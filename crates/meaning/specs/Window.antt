@@ -4,6 +4,7 @@ use mathlib.Core.Bool.{Bool, false, _&&_, _||_, not, cond}
 use mathlib.Core.List.{List, [], _∷_}
 use lib.IntN.{pos, _-ℤ_}
 use lib.Dec.{leb, ltb, eqb}
+use Rattle.meaning.specs.Rules.{byKind}
 use Rattle.calendar.specs.declared.Month.{Month}
 use Rattle.calendar.specs.declared.Month.the-variants.{Number, Absent}
 use Rattle.calendar.specs.Gregorian.{monthDay, monthStart, monthOn}
@@ -73,12 +74,14 @@ module _ (doc : Doc) (p : ℕ → Bool) where
 
   -- by the rule's kind: a selected version offends, for a datatype a field version
   unfoldable pub breaksIn : Rule → Rule → ℕ → ℕ → Bool
-  breaksIn q r v zero = false
-  breaksIn q r v (suc zero) = present doc p r v && keyIn r v
-  breaksIn q r v (suc (suc zero)) = present doc p r v && sharedIn r v
-  breaksIn q r v (suc (suc (suc zero))) = present doc p r v && referenceIn q r v
-  breaksIn q r v (suc (suc (suc (suc zero)))) = present doc p r v && cardinalityIn r v
-  breaksIn q r v (suc (suc (suc (suc (suc k))))) = any (datatypeIn r v) 0 (doc .size)
+  breaksIn q r v k =
+      byKind
+      (λ u. present doc p r u && keyIn r u)
+      (λ u. present doc p r u && sharedIn r u)
+      (λ u. present doc p r u && referenceIn q r u)
+      (λ u. present doc p r u && cardinalityIn r u)
+      (λ u. any (datatypeIn r u) 0 (doc .size))
+      k v
 
   unfoldable pub offendsIn : Rule → Rule → ℕ → Bool
   offendsIn q r v = breaksIn q r v (r .kind)

@@ -7,21 +7,19 @@ use meaning::Listed;
 ghost use Prim.Native.Nat.{_≤_};
 
 // The largest good images, and one byte more, so that a longer one is refused by its length.
-const NODES_ROOM: usize = 20481;
+const NODES_ROOM: usize = 512 * block::NODES.most + 1;
 
-const RULES_ROOM: usize = 5121;
+const RULES_ROOM: usize = 512 * block::RULES.most + 1;
 
-// No list needs more (1,000 records, or 2,001 change days): a pair that asks for more room has the same answers in this much.
-const LIST_ROOM: usize = 2001;
+// No list needs more (an entry for each record, or two change days for each and one): a pair that asks for more room has the same answers
+// in this much.
+const LIST_ROOM: usize = 2 * columns::LIMIT + 1;
 
-// Room for a line of so many numbers.
-const LINE: usize = 16384;
+// Room for a line of so many numbers, each with a space, after a few words.
+const LINE: usize = 8 * LIST_ROOM;
 
 // More pairs than any file has.
 const MANY: usize = 4294967296;
-
-// No report is longer.
-const TEXT_ROOM: usize = 9031;
 
 // Ends the line before `at` and writes it.
 fn write_line(line: &mut [u8], at: usize) {
@@ -31,7 +29,7 @@ fn write_line(line: &mut [u8], at: usize) {
 
 // The report on a pair.
 fn write_report(nodes: &[u8], rules: &[u8]) {
-    let mut text = [0u8; TEXT_ROOM];
+    let mut text = [0u8; report::ROOM];
     let end = report::report(&mut text, nodes, rules);
     io::write_all(STDOUT_FILENO, spelling::front(&text, end));
 }

@@ -12,6 +12,9 @@ ghost use Rattle.bank.specs.Opening.{Opens, Open};
 ghost use Rattle.spelling.specs.Puts.{Puts};
 ghost use Rattle.report.specs.Text.{ruleLines, reportOf};
 
+// No report is longer: the header, and a line for each rule that a table can have (`proofs/Theorems.antt`).
+pub const ROOM: usize = 31 + 90 * (block::RULES.each * block::RULES.most);
+
 // A line for each rule. Cost: the verdict on each.
 fn put_rules<'a>(
     text: &mut [u8],

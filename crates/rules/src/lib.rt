@@ -23,7 +23,7 @@ use meaning::Rule;
 use references::read_references;
 
 // The most rules of a table: ten blocks of ten.
-const LIMIT: usize = 100;
+const LIMIT: usize = block::RULES.each * block::RULES.most;
 
 // How many rules an image has whose blocks were read.
 fn table_size(image: &[u8]) -> usize

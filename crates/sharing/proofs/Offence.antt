@@ -11,7 +11,7 @@ use borrow.Author.Tests.{eqb-true, eqb-false, eq-eqb, ne-eqb}
 use Rattle.meaning.specs.declared.Rule.{Rule}
 use Rattle.meaning.specs.Walk.{any, first}
 use Rattle.meaning.specs.Document.{Doc, isVersion, numberOf}
-use Rattle.meaning.specs.Rules.{isSequenced}
+use Rattle.meaning.specs.Rules.{byKind, isSequenced}
 use Rattle.meaning.specs.Select.{selected, fieldOf, valued, present, gives, has}
 use Rattle.meaning.specs.Window.{Window, meets, valueless, shares, sharedIn, keyIn, referenceIn, breaksIn, offendsIn}
 use Rattle.meaning.proofs.Basics.{went, and-l, and-same}
@@ -137,7 +137,7 @@ module _ (doc : Doc) (begins ends reps : List ℕ) (represents : Represents doc 
 
       offends-is : (needy : Bool) → ((r .kind ≡ 1) × (needy ≡ true)) ⊎ ((r .kind ≡ 2) × (needy ≡ false)) → (v : ℕ)
           → rowShares p (doc .size) rep (selected doc r) (inRow doc r) class needy v ≡ offendsIn doc p q r v
-      unfolding offendsIn breaksIn keyIn
+      unfolding offendsIn byKind breaksIn keyIn
       offends-is needy kinds v =
           shares-is needy v
           ∙ ⊎-elim
@@ -149,7 +149,7 @@ module _ (doc : Doc) (begins ends reps : List ℕ) (represents : Represents doc 
     module _ (referred : (f : ℕ) → wants doc q f ≡ valued doc f) (known : ℕ → Bool)
         (stands : (y : ℕ) → known y ≡ any (holder p (doc .size) rep (selected doc q) (inRow doc q) y) 0 (doc .size)) where
       misses-is : r .kind ≡ 3 → (v : ℕ) → rowMisses p (doc .size) rep (selected doc r) (inRow doc r) known v ≡ offendsIn doc p q r v
-      unfolding rowMisses offendsIn breaksIn referenceIn present
+      unfolding rowMisses offendsIn byKind breaksIn referenceIn present
       misses-is kind v =
           behind (selected doc r v) (p v) _ (referenceIn doc p q r v)
           (λ s.

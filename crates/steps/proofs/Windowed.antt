@@ -8,7 +8,7 @@ use lib.Dec.{leb, ltb}
 use Rattle.meaning.specs.declared.Rule.{Rule}
 use Rattle.meaning.specs.Walk.{any}
 use Rattle.meaning.specs.Document.{Doc, isVersion, numberOf}
-use Rattle.meaning.specs.Rules.{isSequenced}
+use Rattle.meaning.specs.Rules.{byKind, isSequenced}
 use Rattle.meaning.specs.Select.{isNumber, within}
 use Rattle.meaning.specs.Window.{Window, meets, under, follows, jumps, datatypeIn, breaksIn, offendsIn}
 use Rattle.meaning.proofs.Basics.{and-same}
@@ -91,5 +91,5 @@ module _ (doc : Doc) (r : Rule) (ok : Judgeable doc) (flat : isSequenced r ≡ f
         ∙ any-and (λ v. inRow doc r v f && wrongUnder doc r f (w .from) (numberOf doc v)) (meets doc w f) (doc .size)
 
     pub offends-in : (q : Rule) (f : ℕ) → r .kind ≡ 5 → offendsIn doc (meets doc w) q r f ≡ (wrongAfter doc r f (w .from) && meets doc w f)
-    unfolding offendsIn breaksIn
+    unfolding offendsIn byKind breaksIn
     offends-in q f k = ap (breaksIn doc (meets doc w) q r f) k ∙ datatype-in f

@@ -6,6 +6,7 @@ use Prim.Native.Nat.{ℕ}
 use native.Mathlib.Omega.{arith}
 use lib.Dec.{eqb}
 use lib.ListN.{length-replicate, replicate}
+use Rattle.meaning.specs.Block.{limit}
 use Rattle.meaning.specs.declared.Rule.{Rule}
 use Rattle.meaning.specs.Document.{Doc}
 use Rattle.meaning.specs.Rules.{isSequenced, ruleFields}
@@ -22,17 +23,17 @@ use Rattle.windows.specs.Settled.{Settled}
 pub lookable : {doc : Doc} {q r : Rule} {kind start : ℕ} {next last lower : List ℕ} {held-start : ℕ} {held-next held-last held-lower begins ends reps groups : List ℕ}
     {distinct : Bool} {low high : ℕ}
     → Laid doc q r start next last lower held-start held-next held-last held-lower begins ends reps groups distinct low high → kind ≡ r .kind
-    → Lookable kind start next last lower held-start held-next held-last held-lower begins ends reps groups distinct low high 1 (replicate 1000 0) (replicate 1000 0)
+    → Lookable kind start next last lower held-start held-next held-last held-lower begins ends reps groups distinct low high 1 (replicate limit 0) (replicate limit 0)
 lookable {doc} {q} {r} l k =
-    let n = length-replicate {A = ℕ} 1000 0 in
+    let n = length-replicate {A = ℕ} limit 0 in
     record {
       doc = doc;
       other = q;
       rule = r;
       laid = l;
       same-kind = k;
-      stamped = record { room = omega (arith, l .judgeable .few, n); low = λ x. omega (arith, day-zeros 1000 x) };
-      seen = record { room = omega (arith, l .judgeable .few, n); low = λ x. omega (arith, day-zeros 1000 x) };
+      stamped = record { room = omega (arith, l .judgeable .few, n); low = λ x. omega (arith, day-zeros limit x) };
+      seen = record { room = omega (arith, l .judgeable .few, n); low = λ x. omega (arith, day-zeros limit x) };
     }
 
 -- what a rule is judged from, with its terms, is laid for the windows

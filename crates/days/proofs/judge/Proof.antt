@@ -3,6 +3,7 @@ use mathlib.Core.Path.{refl}
 use Prim.Native.Nat.{ℕ}
 use native.Mathlib.Omega.{arith}
 use lib.ListN.{length-replicate}
+use Rattle.meaning.specs.Block.{limit}
 use Rattle.changes.proofs.Columns.{markable, each-day, day-zeros}
 use Rattle.changes.proofs.Spans.{first-few}
 use Rattle.days.proofs.Settling.{walkable, posed, judged}
@@ -39,7 +40,7 @@ walk-requires c κs =
     let p = c .before .before .before .before .before .before .before .before .before .before .before .before .before .before .before .before .before .before .before .before .before .before .before .before .before .before .before .before .before .before .before .before .pre in
     let s = p .1 .2 in
     let days = each-day (c .before .before .before .before .before .before .before .before .before .before .before .before .before .before .before .before .before .before .before .before .mark-changes .ensures (p .1 .0) (p .1 .1) _ (s .periods) (s .rowed .read) refl (λ e. s .referred e .0 .read) refl) in
-    walkable s (p .0) (days .room) (omega (arith, length-replicate {A = ℕ} 1000 0)) (day-zeros 1000)
+    walkable s (p .0) (days .room) (omega (arith, length-replicate {A = ℕ} limit 0)) (day-zeros limit)
 
 returns : tie.Need-returns
 returns c =
