@@ -14,21 +14,6 @@ pub one-less : (i n : ℕ) → i < n → n - i ≡ suc (n - (i + 1))
 one-less i n h = omega arith
 
 module _ (f : ℕ → Bool) (n : ℕ) where
-  pub any-start : any f 0 (n - 0) ≡ any f 0 n
-  any-start = let e : n - 0 ≡ n = omega arith in rw e
-
-  pub any-yes : (i : ℕ) → i < n → f i ≡ true → any f i (n - i) ≡ true
-  unfolding any
-  any-yes i h e = rw (one-less i n h, e)
-
-  pub any-no : (i : ℕ) → i < n → f i ≡ false → any f i (n - i) ≡ any f (i + 1) (n - (i + 1))
-  unfolding any
-  any-no i h e = rw (one-less i n h, e, add-one i)
-
-  pub any-end : (i : ℕ) → n ≤ i → any f i (n - i) ≡ false
-  unfolding any
-  any-end i h = let e : n - i ≡ 0 = omega arith in rw e
-
   pub first-start : first f 0 (n - 0) ≡ first f 0 n
   first-start = let e : n - 0 ≡ n = omega arith in rw e
 
