@@ -4,9 +4,9 @@ use Rattle.bank.proofs.Opens.{open-fronts, opened}
 use Rattle.bank.proofs.judge.Statement.{statement}
 use Rattle.bank.proofs.judge.Tie as tie
 
--- from the representatives back to the start
-abbrev start : tie.After-represent → tie.Start
-start c = c .before .before .before .before .before .before .before .before .before
+-- from the columns lent to `represent` back to the start
+abbrev start : tie.After-represent-arg6 → tie.Start
+start c = c .before .before .before .before .before .before .before .before
 
 -- from the columns that are lent back to the representatives
 abbrev represented : tie.After-rep → tie.After-represent
@@ -14,7 +14,7 @@ represented c = c .before .before .before .before .before .before .before .befor
 
 represent-requires : tie.Need-represent-requires
 represent-requires c κs =
-    let p = c .before .before .before .before .before .before .before .before .pre in
+    let p = start c .pre in
     let f = open-fronts _ (p .0 .1) (p .1) in
     (f .kind, f .vkind, f .value, (f .doc, f .whole .values-held, f .whole .judgeable .few))
 
@@ -24,14 +24,14 @@ slice-aggregate-verdict-of c = search needs
 verdict-of-requires : tie.Need-verdict-of-requires
 verdict-of-requires c κs =
     let r = represented c in
-    let p = start r .pre in
+    let p = start (r .before) .pre in
     let f = open-fronts _ (p .0 .1) (p .1) in
     (p .0 .0, opened _ (p .0 .1) (p .1) (r .represent .ensures (f .doc) (f .whole .values-held)))
 
 returns : tie.Need-returns
 returns c nodes o =
     let r = represented (c .before) in
-    let loaded = start r .pre .1 in
+    let loaded = start (r .before) .pre .1 in
     let f = open-fronts _ o loaded in
     c .verdict-of .ensures nodes (opened _ o loaded (r .represent .ensures (f .doc) (f .whole .values-held)))
 

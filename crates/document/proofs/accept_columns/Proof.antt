@@ -23,16 +23,20 @@ enum-told c = search needs
 enum-told-2 : tie.Need-enum-told-2
 enum-told-2 c = search needs
 
+-- from the call of `read-records` back to the start
+abbrev entry : tie.After-read-records → tie.Start
+entry c = c .before .before .before .before .before .before .before .before .before
+
 returns : tie.Need-returns
 returns c =
-    let a = c .before .before .before .before .before .before .before .before .before .before .before .args in
+    let a = entry (c .before .before) .args in
     by-record (a .kind .now) (a .vkind .now) (a .name .now) (a .parent .now) (a .begin .now) (a .end .now) (a .value .now) (a .item .now) (a .spare .now) (c .before .before .read-records .ensures) (c .enum-told2 .given .1)
 
 first-misplaced-requires : tie.Need-first-misplaced-requires
 first-misplaced-requires c κs =
-    let a = c .before .before .before .before .before .before .before .before .before .before .before .args in
+    let a = entry (c .before .before) .args in
     let passed = sym (c .before .before .read-records .ensures) ∙ c .enum-told .given .1 in
-    sound-placing (a .kind .now) (a .vkind .now) (a .name .now) (a .parent .now) (a .begin .now) (a .end .now) (a .value .now) (a .item .now) (a .spare .now) (c .before .before .before .before .before .before .before .before .before .before .before .pre) (accepted-sound (columns (a .kind .now) (a .vkind .now) (a .name .now) (a .parent .now) (a .begin .now) (a .end .now) (a .value .now) (a .item .now) (a .spare .now)) passed)
+    sound-placing (a .kind .now) (a .vkind .now) (a .name .now) (a .parent .now) (a .begin .now) (a .end .now) (a .value .now) (a .item .now) (a .spare .now) (entry (c .before .before) .pre) (accepted-sound (columns (a .kind .now) (a .vkind .now) (a .name .now) (a .parent .now) (a .begin .now) (a .end .now) (a .value .now) (a .item .now) (a .spare .now)) passed)
 
 enum-known-misplaced : tie.Need-enum-known-misplaced
 enum-known-misplaced c = search needs
@@ -41,7 +45,7 @@ returns-2 : tie.Need-returns-2
 returns-2 c =
     let m = c .before .before .before in
     let t = m .before in
-    let a = t .before .before .before .before .before .before .before .before .before .before .before .args in
+    let a = entry (t .before .before) .args in
     by-place (a .kind .now) (a .vkind .now) (a .name .now) (a .parent .now) (a .begin .now) (a .end .now) (a .value .now) (a .item .now) (a .spare .now) (t .before .before .read-records .ensures) (t .enum-told .given .1) (m .first-misplaced .ensures) (c .before .misplaced .given .1)
 
 enum-told-3 : tie.Need-enum-told-3
@@ -59,7 +63,7 @@ returns-3 c =
     let n = q .before in
     let m = n .before .before in
     let t = m .before in
-    let a = t .before .before .before .before .before .before .before .before .before .before .before .args in
+    let a = entry (t .before .before) .args in
     by-clash (a .kind .now) (a .vkind .now) (a .name .now) (a .parent .now) (a .begin .now) (a .end .now) (a .value .now) (a .item .now) (a .spare .now) (t .before .before .read-records .ensures) (t .enum-told .given .1) (m .first-misplaced .ensures) (n .enum-told3 .given .1)
     (q .first-clash .ensures) (c .before .clash .given .1)
 
@@ -77,7 +81,7 @@ returns-4 c =
     let n = q .before in
     let m = n .before .before in
     let t = m .before in
-    let a = t .before .before .before .before .before .before .before .before .before .before .before .args in
+    let a = entry (t .before .before) .args in
     by-root (a .kind .now) (a .vkind .now) (a .name .now) (a .parent .now) (a .begin .now) (a .end .now) (a .value .now) (a .item .now) (a .spare .now) (t .before .before .read-records .ensures) (t .enum-told .given .1) (m .first-misplaced .ensures) (n .enum-told3 .given .1)
     (q .first-clash .ensures) true (k .enum-told4 .given .1) (w .is-whole .ensures) (c .if1 .taken)
 
@@ -89,7 +93,7 @@ returns-5 c =
     let n = q .before in
     let m = n .before .before in
     let t = m .before in
-    let a = t .before .before .before .before .before .before .before .before .before .before .before .args in
+    let a = entry (t .before .before) .args in
     by-root (a .kind .now) (a .vkind .now) (a .name .now) (a .parent .now) (a .begin .now) (a .end .now) (a .value .now) (a .item .now) (a .spare .now) (t .before .before .read-records .ensures) (t .enum-told .given .1) (m .first-misplaced .ensures) (n .enum-told3 .given .1)
     (q .first-clash .ensures) false (k .enum-told4 .given .1) (w .is-whole .ensures) (c .if1 .left)
 

@@ -5,9 +5,13 @@ use Rattle.judging.proofs.Modes.{judged-days, judged-windows}
 use Rattle.judging.proofs.judge_columns.Statement.{statement}
 use Rattle.judging.proofs.judge_columns.Tie as tie
 
+-- from `struct-known` back to the start
+abbrev entry : tie.After-struct-known → tie.Start
+entry c = c .before .before .before .before .before .before .before .before .before
+
 verdict-requires : tie.Need-verdict-requires
 verdict-requires c κs =
-    let p = c .before .before .before .before .before .before .before .before .before .before .pre in
+    let p = entry (c .before) .pre in
     let w = p .2 .1 in
     (p .0, p .1, (p .2 .0, w .tree, w .values-held, w .periods, p .2 .2, w .judgeable))
 
@@ -18,7 +22,7 @@ returns c =
 
 verdict-requires-2 : tie.Need-verdict-requires-2
 verdict-requires-2 c κs =
-    let p = c .before .before .before .before .before .before .before .before .before .before .pre in
+    let p = entry (c .before) .pre in
     let w = p .2 .1 in
     (p .0, ne-eqb _ 0 (c .if1 .left), p .1, (p .2 .0, w .tree, w .values-held, w .periods, w .numbers, p .2 .2, w .judgeable))
 

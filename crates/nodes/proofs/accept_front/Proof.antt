@@ -90,14 +90,18 @@ part-accept-columns-start-9 c = search needs
 part-accept-columns-end-9 : tie.Need-part-accept-columns-end-9
 part-accept-columns-end-9 c = search needs
 
+-- from `accept-columns-arg9` back to the start
+abbrev entry : tie.After-accept-columns-arg9 → tie.Start
+entry c = c .before .before .before .before .before .before .before .before .before .before .before .before .before .before .before .before .before
+
 accept-columns-requires : tie.Need-accept-columns-requires
 accept-columns-requires c κs =
-    let a = c .before .before .before .before .before .before .before .before .before .before .before .before .before .before .before .before .before .args in
-    front-even (a .n) (a .kind .now) (a .vkind .now) (a .name .now) (a .parent .now) (a .begin .now) (a .end .now) (a .value .now) (a .item .now) (a .spare .now) (c .before .before .before .before .before .before .before .before .before .before .before .before .before .before .before .before .before .pre)
+    let a = entry c .args in
+    front-even (a .n) (a .kind .now) (a .vkind .now) (a .name .now) (a .parent .now) (a .begin .now) (a .end .now) (a .value .now) (a .item .now) (a .spare .now) (entry c .pre)
 
 returns : tie.Need-returns
 returns c =
-    let a = c .before .before .before .before .before .before .before .before .before .before .before .before .before .before .before .before .before .before .args in
+    let a = entry (c .before) .args in
     c .accept-columns .ensures ∙ ap (λ m. accept (columns (take m (a .kind .now)) (take m (a .vkind .now)) (take m (a .name .now)) (take m (a .parent .now)) (take m (a .begin .now)) (take m (a .end .now)) (take m (a .value .now)) (take m (a .item .now)) (take m (a .spare .now)))) (sub-zero (a .n))
 
 pub accept-front-spec : {M : Type 1} → statement M

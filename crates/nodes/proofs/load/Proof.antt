@@ -14,9 +14,25 @@ read-nodes-requires c κs = search needs
 enum-known-read : tie.Need-enum-known-read
 enum-known-read c = search needs
 
+-- from `slice-known14` back to the call of `unpack`
+abbrev after-unpack : tie.After-slice-known14 → tie.After-unpack
+after-unpack c = c .before .before .before .before .before .before .before .before .before .before .before .before .before .before .before
+
+-- from `unpack-arg8` back to the other arm of `if1`
+abbrev else1 : tie.After-unpack-arg8 → tie.Else1
+else1 c = c .before .before .before .before .before .before .before .before
+
+-- from the call of `has-room` back to the call of `read-nodes`
+abbrev after-read-nodes : tie.After-has-room → tie.After-read-nodes
+after-read-nodes c = c .before .before .before .before
+
+-- from the call of `read-nodes` back to the start
+abbrev entry : tie.After-read-nodes → tie.Start
+entry c = c .before .before .before .before .before .before .before .before .before
+
 returns : tie.Need-returns
 returns c =
-    let a = c .before .before .before .before .before .before .before .before .before .before .before .before .args in
+    let a = entry (c .before .before .before) .args in
     (as-image (a .image .now) (c .before .before .before .read-nodes .ensures) (length (a .kind .now)) (length (a .vkind .now)) (length (a .name .now)) (length (a .parent .now)) (length (a .begin .now)) (length (a .end .now)) (length (a .value .now)) (length (a .item .now)) (c .before .read .given .1), (refl, (refl, (refl, (refl, (refl, (refl, (refl, refl))))))))
 
 enum-told : tie.Need-enum-told
@@ -24,7 +40,7 @@ enum-told c = search needs
 
 count-records-requires : tie.Need-count-records-requires
 count-records-requires c κs =
-    let a = c .before .before .before .before .before .before .before .before .before .before .before .args in
+    let a = entry (c .before .before) .args in
     record { fair = search needs; accepted = read-good (a .image .now) (c .before .before .read-nodes .ensures) (c .enum-told .given .1) }
 
 has-room-requires : tie.Need-has-room-requires
@@ -32,16 +48,16 @@ has-room-requires c κs = search needs
 
 returns-2 : tie.Need-returns-2
 returns-2 c =
-    let a = c .before .before .before .before .before .before .before .before .before .before .before .before .before .before .args in
+    let a = entry (after-read-nodes (c .before)) .args in
     let n = c .before .before .count-records in
-    (no-room (a .image .now) (c .before .before .before .before .before .read-nodes .ensures) (length (a .kind .now)) (length (a .vkind .now)) (length (a .name .now)) (length (a .parent .now)) (length (a .begin .now)) (length (a .end .now)) (length (a .value .now)) (length (a .item .now)) (c .before .before .before .enum-told .given .1) (n .result) (n .ensures .count) (c .before .has-room .ensures) (c .if1 .taken), (refl, (refl, (refl, (refl, (refl, (refl, (refl, refl))))))))
+    (no-room (a .image .now) (after-read-nodes (c .before) .read-nodes .ensures) (length (a .kind .now)) (length (a .vkind .now)) (length (a .name .now)) (length (a .parent .now)) (length (a .begin .now)) (length (a .end .now)) (length (a .value .now)) (length (a .item .now)) (c .before .before .before .enum-told .given .1) (n .result) (n .ensures .count) (c .before .has-room .ensures) (c .if1 .taken), (refl, (refl, (refl, (refl, (refl, (refl, (refl, refl))))))))
 
 unpack-requires : tie.Need-unpack-requires
 unpack-requires c κs =
-    let t = c .before .before .before .before .before .before .before .before in
-    let a = t .before .before .before .before .before .before .before .before .before .before .before .before .before .before .args in
+    let t = else1 c in
+    let a = entry (after-read-nodes (t .before)) .args in
     let n = t .before .before .count-records in
-    room-for (a .image .now) (t .before .before .before .before .before .read-nodes .ensures) (length (a .kind .now)) (length (a .vkind .now)) (length (a .name .now)) (length (a .parent .now)) (length (a .begin .now)) (length (a .end .now)) (length (a .value .now)) (length (a .item .now)) (t .before .before .before .enum-told .given .1) (n .result) (n .ensures .count) (t .before .has-room .ensures) (n .ensures .inside) (t .if1 .left)
+    room-for (a .image .now) (after-read-nodes (t .before) .read-nodes .ensures) (length (a .kind .now)) (length (a .vkind .now)) (length (a .name .now)) (length (a .parent .now)) (length (a .begin .now)) (length (a .end .now)) (length (a .value .now)) (length (a .item .now)) (t .before .before .before .enum-told .given .1) (n .result) (n .ensures .count) (t .before .has-room .ensures) (n .ensures .inside) (t .if1 .left)
 
 same-length : tie.Need-same-length
 same-length c = search needs
@@ -70,11 +86,11 @@ same-length-8 c = search needs
 returns-3 : tie.Need-returns-3
 unfolding nodeIn
 returns-3 c =
-    let t = c .before .before .before .before .before .before .before .before .before .before .before .before .before .before .before .before .before .before .before .before .before .before .before .before in
-    let a = t .before .before .before .before .before .before .before .before .before .before .before .before .before .before .args in
+    let t = else1 (after-unpack c .before) in
+    let a = entry (after-read-nodes (t .before)) .args in
     let n = t .before .before .count-records in
-    let u = c .before .before .before .before .before .before .before .before .before .before .before .before .before .before .before .unpack .ensures in (
-      with-room (a .image .now) (t .before .before .before .before .before .read-nodes .ensures) (length (a .kind .now)) (length (a .vkind .now)) (length (a .name .now)) (length (a .parent .now)) (length (a .begin .now)) (length (a .end .now)) (length (a .value .now)) (length (a .item .now)) (t .before .before .before .enum-told .given .1) (n .result) (n .ensures .count) (t .before .has-room .ensures) (t .if1 .left),
+    let u = after-unpack c .unpack .ensures in (
+      with-room (a .image .now) (after-read-nodes (t .before) .read-nodes .ensures) (length (a .kind .now)) (length (a .vkind .now)) (length (a .name .now)) (length (a .parent .now)) (length (a .begin .now)) (length (a .end .now)) (length (a .value .now)) (length (a .item .now)) (t .before .before .before .enum-told .given .1) (n .result) (n .ensures .count) (t .before .has-room .ensures) (t .if1 .left),
       (
         field-column (a .image .now) (n .result) (n .ensures .count) (λ (x : Node). x .kind) (a .kind .now) _ (u .0),
         (

@@ -19,10 +19,30 @@ enum-told-2 c = search needs
 told-requires : tie.Need-told-requires
 told-requires c κs = search needs
 
+-- from `accept-front-arg9` back to the call of `fill-pairs`
+abbrev after-fill-pairs : tie.After-accept-front-arg9 → tie.After-fill-pairs
+after-fill-pairs c = c .before .before .before .before .before .before .before .before .before .before .before
+
+-- from `fill-pairs-arg` back to the call of `unpack`
+abbrev after-unpack : tie.After-fill-pairs-arg → tie.After-unpack
+after-unpack c = c .before .before .before .before .before .before .before .before .before .before .before .before .before .before .before .before
+
+-- from `unpack-arg8` back to the call of `count-records`
+abbrev after-count-records : tie.After-unpack-arg8 → tie.After-count-records
+after-count-records c = c .before .before .before .before .before .before .before .before
+
+-- from the call of `told2` back to `enum-told`
+abbrev after-enum-told : tie.After-told2 → tie.After-enum-told
+after-enum-told c = after-count-records (after-unpack (after-fill-pairs (c .before .before) .before) .before) .before
+
+-- from the call of `node-blocks` back to the start
+abbrev entry : tie.After-node-blocks → tie.Start
+entry c = c .before .before .before .before .before .before .before .before .before .before
+
 returns : tie.Need-returns
 returns c =
     let b = c .before .before .before .node-blocks .ensures in
-    let start = c .before .before .before .before .before .before .before .before .before .before .before .before .before in
+    let start = entry (c .before .before .before) in
     unpacks-none (start .args .image .now) (sym b ∙ c .before .enum-told2 .given .1) b 0 (c .told .ensures) (start .pre)
 
 count-records-requires : tie.Need-count-records-requires
@@ -30,8 +50,8 @@ count-records-requires c κs = record { fair = search needs; accepted = sym (c .
 
 unpack-requires : tie.Need-unpack-requires
 unpack-requires c κs =
-    let n = c .before .before .before .before .before .before .before .before .count-records .ensures in
-    let f = blank-front (c .before .before .before .before .before .before .before .before .before .before .before .before .before .before .before .before .before .before .before .before .before .pre) in
+    let n = after-count-records c .count-records .ensures in
+    let f = blank-front (entry (after-count-records c .before .before .before) .pre) in
     record {
       inside = n .inside;
       kind = omega (arith, n .few, f .kind);
@@ -46,13 +66,13 @@ unpack-requires c κs =
 
 fill-pairs-requires : tie.Need-fill-pairs-requires
 fill-pairs-requires c κs =
-    let n = c .before .before .before .before .before .before .before .before .before .before .before .before .before .before .before .before .before .before .before .before .before .before .before .before .before .count-records .ensures in
-    record { inside = n .inside; in-record = omega arith; fits = omega (arith, n .few, blank-front (c .before .before .before .before .before .before .before .before .before .before .before .before .before .before .before .before .before .before .before .before .before .before .before .before .before .before .before .before .before .before .before .before .before .before .before .before .before .before .pre) .spare) }
+    let n = after-count-records (after-unpack c .before) .count-records .ensures in
+    record { inside = n .inside; in-record = omega arith; fits = omega (arith, n .few, blank-front (entry (after-count-records (after-unpack c .before) .before .before .before) .pre) .spare) }
 
 accept-front-requires : tie.Need-accept-front-requires
 accept-front-requires c κs =
-    let n = c .before .before .before .before .before .before .before .before .before .before .before .before .before .before .before .before .before .before .before .before .before .before .before .before .before .before .before .before .before .before .before .before .before .before .before .before .before .count-records in
-    let u = c .before .before .before .before .before .before .before .before .before .before .before .before .before .before .before .before .before .before .before .before .before .before .before .before .before .before .before .before .unpack .ensures in
+    let n = after-count-records (after-unpack (after-fill-pairs c .before) .before) .count-records in
+    let u = after-unpack (after-fill-pairs c .before) .unpack .ensures in
     record {
       few = n .ensures .few;
       kind = filled-room _ (n .result) _ _ (u .0);
@@ -63,7 +83,7 @@ accept-front-requires c κs =
       end = filled-room _ (n .result) _ _ (u .1 .1 .1 .1 .1 .0);
       value = filled-room _ (n .result) _ _ (u .1 .1 .1 .1 .1 .1 .0);
       item = filled-room _ (n .result) _ _ (u .1 .1 .1 .1 .1 .1 .1);
-      spare = filled-room _ (n .result) _ _ (c .before .before .before .before .before .before .before .before .before .before .before .fill-pairs .ensures);
+      spare = filled-room _ (n .result) _ _ (after-fill-pairs c .fill-pairs .ensures);
     }
 
 told-requires-2 : tie.Need-told-requires-2
@@ -98,12 +118,12 @@ same-length-9 c = search needs
 
 returns-2 : tie.Need-returns-2
 returns-2 c =
-    let n = c .before .before .before .before .before .before .before .before .before .before .before .before .before .before .before .before .before .before .before .before .before .before .before .before .before .before .before .before .before .before .before .before .before .before .before .before .before .before .before .count-records in
-    let blocks = c .before .before .before .before .before .before .before .before .before .before .before .before .before .before .before .before .before .before .before .before .before .before .before .before .before .before .before .before .before .before .before .before .before .before .before .before .before .before .before .before .before .before .node-blocks .ensures in
-    let u = c .before .before .before .before .before .before .before .before .before .before .before .before .before .before .before .before .before .before .before .before .before .before .before .before .before .before .before .before .before .before .unpack .ensures in
-    let start = c .before .before .before .before .before .before .before .before .before .before .before .before .before .before .before .before .before .before .before .before .before .before .before .before .before .before .before .before .before .before .before .before .before .before .before .before .before .before .before .before .before .before .before .before .before .before .before .before .before .before .before .before in
-    unpacks-all (start .args .image .now) (sym blocks ∙ c .before .before .before .before .before .before .before .before .before .before .before .before .before .before .before .before .before .before .before .before .before .before .before .before .before .before .before .before .before .before .before .before .before .before .before .before .before .before .before .before .enum-told .given .1) (n .result) (n .ensures .count) (start .pre)
-    (u .0) (u .1 .0) (u .1 .1 .0) (u .1 .1 .1 .0) (u .1 .1 .1 .1 .0) (u .1 .1 .1 .1 .1 .0) (u .1 .1 .1 .1 .1 .1 .0) (u .1 .1 .1 .1 .1 .1 .1) (c .before .before .before .before .before .before .before .before .before .before .before .before .before .fill-pairs .ensures) (c .before .accept-front .ensures) (c .told2 .ensures)
+    let n = after-count-records (after-unpack (after-fill-pairs (c .before .before) .before) .before) .count-records in
+    let blocks = after-enum-told c .before .before .node-blocks .ensures in
+    let u = after-unpack (after-fill-pairs (c .before .before) .before) .unpack .ensures in
+    let start = entry (after-enum-told c .before .before) in
+    unpacks-all (start .args .image .now) (sym blocks ∙ after-enum-told c .enum-told .given .1) (n .result) (n .ensures .count) (start .pre)
+    (u .0) (u .1 .0) (u .1 .1 .0) (u .1 .1 .1 .0) (u .1 .1 .1 .1 .0) (u .1 .1 .1 .1 .1 .0) (u .1 .1 .1 .1 .1 .1 .0) (u .1 .1 .1 .1 .1 .1 .1) (after-fill-pairs (c .before .before) .fill-pairs .ensures) (c .before .accept-front .ensures) (c .told2 .ensures)
 
 pub read-into-spec : {M : Type 1} → statement M
 read-into-spec =

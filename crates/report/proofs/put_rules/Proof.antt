@@ -20,22 +20,22 @@ Inv-loop text₀ at rules n kind vkind name parent begin end value item rep many
 abbrev μ-loop : tie.MeasureT-loop
 μ-loop text₀ at rules n kind vkind name parent begin end value item rep many to₀ k₀ text to k = many - k
 
--- from the count of the rules back to the start
-abbrev start : tie.After-count-rules Inv-loop μ-loop → tie.Start Inv-loop μ-loop
-start c = c .before .before .before .before .before .before .before .before .before .before .before
+-- from what is known of the parameters back to the start
+abbrev start : tie.After-shared-slice-known9 Inv-loop μ-loop → tie.Start Inv-loop μ-loop
+start c = c .before .before .before .before .before .before .before .before .before .before
 
 -- from a line that was put back to the verdict that it tells
 abbrev found : tie.After-put-rule Inv-loop μ-loop → tie.After-verdict-of Inv-loop μ-loop
 found c = c .before .before
 
 count-rules-requires : tie.Need-count-rules-requires Inv-loop μ-loop
-count-rules-requires c κs = c .before .before .before .before .before .before .before .before .before .before .pre .1 .table
+count-rules-requires c κs = start c .pre .1 .table
 
 loop-holds : tie.Need-loop-holds Inv-loop μ-loop
 loop-holds c = (refl, search needs, λ nodes o. rules-none _ _ _)
 
 verdict-of-requires : tie.Need-verdict-of-requires Inv-loop μ-loop
-verdict-of-requires c κs = start (c .before .before) .pre
+verdict-of-requires c κs = start (c .before .before .before) .pre
 
 put-rule-requires : tie.Need-put-rule-requires Inv-loop μ-loop
 put-rule-requires c κs = search needs

@@ -22,9 +22,13 @@ copied c = c .before .before .before .before .before
 abbrev start-copied : tie.After-end → tie.Start
 start-copied c = start (sequenced (copied c .before) .before .before)
 
+-- from the third column that is lent back to the copied columns
+abbrev lent : tie.After-parent2 → tie.After-end
+lent c = c .before .before .before
+
 -- from the columns that are lent back to the rule that was referred to
 abbrev referred : tie.After-changes-front-arg → tie.After-referred-rule
-referred c = copied (c .before .before .before .before .before .before)
+referred c = copied (lent (c .before .before .before))
 
 count-rules-requires : tie.Need-count-rules-requires
 count-rules-requires c κs = let p = c .before .before .pre in accepted-both _ (p .0 .1) (p .1) .1
@@ -63,10 +67,10 @@ slice-aggregate-changes-front-3 : tie.Need-slice-aggregate-changes-front-3
 slice-aggregate-changes-front-3 c = search (needs, start-copied (c .before .before .before) .good)
 
 slice-aggregate-changes-front-4 : tie.Need-slice-aggregate-changes-front-4
-slice-aggregate-changes-front-4 c = search (needs, start-copied (c .before .before .before .before) .good)
+slice-aggregate-changes-front-4 c = search (needs, start-copied (lent (c .before)) .good)
 
 slice-aggregate-changes-front-5 : tie.Need-slice-aggregate-changes-front-5
-slice-aggregate-changes-front-5 c = search (needs, start-copied (c .before .before .before .before .before) .good)
+slice-aggregate-changes-front-5 c = search (needs, start-copied (lent (c .before .before)) .good)
 
 changes-front-requires : tie.Need-changes-front-requires
 changes-front-requires c κs =

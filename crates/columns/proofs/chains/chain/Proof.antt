@@ -62,9 +62,17 @@ add-i c = search needs
 loop-less : tie.Need-loop-less Inv-loop μ-loop
 loop-less c = search needs
 
+-- from the meeting of `if1` back to the head of the loop
+abbrev head : tie.Joined1 Inv-loop μ-loop → tie.At-loop Inv-loop μ-loop
+head c = c .before .before .before .before .before
+
+-- from the head of the loop back to the start
+abbrev entry : tie.At-loop Inv-loop μ-loop → tie.Start Inv-loop μ-loop
+entry c = c .before .before .before
+
 loop-again : tie.Need-loop-again Inv-loop μ-loop
 loop-again c =
-    let s = c .before .before .before .before .before .loop in
+    let s = head c .loop in
     let k = c .before .before .index in
     ⊎-elim
     (λ w. rw (w .1, w .2) (omega arith, chained-store _ _ _ _ _ _ _ (s .inv .1) (omega arith) _ (k .ensures) (w .0 .taken)))
@@ -74,7 +82,7 @@ loop-again c =
 returns : tie.Need-returns Inv-loop μ-loop
 returns c =
     let s = c .before .loop in
-    let e : s .i ≡ length (c .before .before .before .before .args .kind .now) = omega arith in
+    let e : s .i ≡ length (entry (c .before) .args .kind .now) = omega arith in
     rw e at (s .inv .1)
 
 pub chain-spec : {M : Type 1} → statement M

@@ -30,9 +30,21 @@ shared-slice-read-index c = search needs
 index-requires : tie.Need-index-requires Inv-loop μ-loop
 index-requires c κs = search needs
 
+-- from the call of `clashes-with` back to the head of the loop
+abbrev head : tie.After-clashes-with Inv-loop μ-loop → tie.At-loop Inv-loop μ-loop
+head c = c .before .before
+
+-- from the head of the loop back to the other arm of `if1`
+abbrev else1 : tie.At-loop Inv-loop μ-loop → tie.Else1 Inv-loop μ-loop
+else1 c = c .before .before .before
+
+-- from the call of `index` back to the start
+abbrev entry : tie.After-index Inv-loop μ-loop → tie.Start Inv-loop μ-loop
+entry c = c .before .before .before .before .before .before .before .before .before .before .before .before .before
+
 loop-holds : tie.Need-loop-holds Inv-loop μ-loop
 loop-holds c =
-    let p = c .before .before .before .before .before .before .before .before .before .before .before .before .before .pre in
+    let p = entry c .pre in
     (p .3, lowered-start _ _ (p .3) _ (p .1) (c .before .before .if1 .left) _ (c .index .ensures))
 
 sub-clashes-with : tie.Need-sub-clashes-with Inv-loop μ-loop
@@ -40,15 +52,15 @@ sub-clashes-with c = search needs
 
 clashes-with-requires : tie.Need-clashes-with-requires Inv-loop μ-loop
 clashes-with-requires c κs =
-    let p = c .before .before .before .before .before .before .before .before .before .before .before .before .before .before .before .pre in
+    let p = entry (c .before .before) .pre in
     let s = c .before .loop .inv in
-    (p .0, p .1, omega (arith, s .1 .low), lowered-item _ _ (s .0) _ (p .1) (c .before .before .before .before .if1 .left) _ (s .1) (omega arith), p .2)
+    (p .0, p .1, omega (arith, s .1 .low), lowered-item _ _ (s .0) _ (p .1) (else1 (c .before) .if1 .left) _ (s .1) (omega arith), p .2)
 
 returns-2 : tie.Need-returns-2 Inv-loop μ-loop
 returns-2 c =
-    let p = c .before .before .before .before .before .before .before .before .before .before .before .before .before .before .before .before .before .pre in
+    let p = entry (head (c .before) .before) .pre in
     let s = c .before .before .before .loop .inv in
-    lowered-hit _ _ (s .0) _ (p .1) (c .before .before .before .before .before .before .if1 .left) _ (s .1) (omega arith) _ (c .before .clashes-with .ensures) (c .if2 .taken)
+    lowered-hit _ _ (s .0) _ (p .1) (else1 (head (c .before)) .if1 .left) _ (s .1) (omega arith) _ (c .before .clashes-with .ensures) (c .if2 .taken)
 
 sub-index : tie.Need-sub-index Inv-loop μ-loop
 sub-index c = search needs
@@ -64,24 +76,26 @@ index-requires-2 c κs = search needs
 
 loop-less : tie.Need-loop-less Inv-loop μ-loop
 loop-less c =
-    let p = c .before .before .before .before .before .before .before .before .before .before .before .before .before .before .before .before .before .before .before .pre in
-    let s = c .before .before .before .before .before .loop .inv in
-    lowered-less _ _ (s .0) _ (p .1) (c .before .before .before .before .before .before .before .before .if1 .left) _ (s .1) (omega arith) _ (c .index2 .ensures)
+    let top = head (c .before .before .before) in
+    let p = entry (top .before) .pre in
+    let s = top .loop .inv in
+    lowered-less _ _ (s .0) _ (p .1) (else1 top .if1 .left) _ (s .1) (omega arith) _ (c .index2 .ensures)
 
 loop-again : tie.Need-loop-again Inv-loop μ-loop
 loop-again c =
-    let p = c .before .before .before .before .before .before .before .before .before .before .before .before .before .before .before .before .before .before .before .pre in
-    let s = c .before .before .before .before .before .loop .inv in (
+    let top = head (c .before .before .before) in
+    let p = entry (top .before) .pre in
+    let s = top .loop .inv in (
       s .0,
-      lowered-next _ _ (s .0) _ (p .1) (c .before .before .before .before .before .before .before .before .if1 .left) _ (s .1) (omega arith) _ (c .index2 .ensures)
+      lowered-next _ _ (s .0) _ (p .1) (else1 top .if1 .left) _ (s .1) (omega arith) _ (c .index2 .ensures)
           _ (c .before .before .before .clashes-with .ensures) (c .before .before .if2 .left),
     )
 
 returns-3 : tie.Need-returns-3 Inv-loop μ-loop
 returns-3 c =
-    let p = c .before .before .before .before .before .before .before .before .before .before .before .before .before .before .before .pre in
+    let p = entry (c .before .before) .pre in
     let s = c .before .loop .inv in
-    lowered-end _ _ (s .0) _ (p .1) (c .before .before .before .before .if1 .left) _ (s .1) (c .loop-test .left)
+    lowered-end _ _ (s .0) _ (p .1) (else1 (c .before) .if1 .left) _ (s .1) (c .loop-test .left)
 
 pub clashes-lower-spec : {M : Type 1} → statement M
 clashes-lower-spec =

@@ -23,8 +23,12 @@ abbrev μ-loop : tie.MeasureT-loop
 loop-holds : tie.Need-loop-holds Inv-loop μ-loop
 loop-holds c = (omega arith, first-start _ _)
 
+-- from the head of the loop back to the start
+abbrev entry : tie.At-loop Inv-loop μ-loop → tie.Start Inv-loop μ-loop
+entry c = c .before .before .before .before .before .before .before .before .before .before
+
 clashes-lower-requires : tie.Need-clashes-lower-requires Inv-loop μ-loop
-clashes-lower-requires c κs = let p = c .before .before .before .before .before .before .before .before .before .before .before .pre in (p .0, c .loop-test .taken, p .1, p .2)
+clashes-lower-requires c κs = let p = entry (c .before) .pre in (p .0, c .loop-test .taken, p .1, p .2)
 
 returns : tie.Need-returns Inv-loop μ-loop
 returns c = sym (first-yes _ _ _ (c .before .before .loop-test .taken) (sym (c .before .clashes-lower .ensures) ∙ c .if1 .taken)) ∙ c .before .before .before .loop .inv .1

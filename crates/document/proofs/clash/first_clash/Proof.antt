@@ -25,14 +25,26 @@ slice-aggregate-first-chained-2 c = search needs
 slice-aggregate-first-chained-3 : tie.Need-slice-aggregate-first-chained-3
 slice-aggregate-first-chained-3 c = search needs
 
+-- from `twin2` back to the call of `chain2`
+abbrev after-chain2 : tie.After-twin2 → tie.After-chain2
+after-chain2 c = c .before .before .before .before
+
+-- from `twin2` back to the call of `buckets`
+abbrev after-buckets : tie.After-twin2 → tie.After-buckets
+after-buckets c = after-chain2 c .before .before
+
+-- from the call of `buckets` back to the start
+abbrev entry : tie.After-buckets → tie.Start
+entry c = c .before .before .before .before .before .before .before .before .before .before
+
 first-chained-requires : tie.Need-first-chained-requires
 first-chained-requires c κs =
-    let a = c .before .before .before .before .before .before .before .before .before .before .before .before .before .before .before .before in
+    let a = entry (after-buckets c) in
     let x = a .args in (
       a .pre .1,
-      c .before .before .before .before .before .before .before .before .before .chain .ensures,
+      after-buckets c .before .before .before .chain .ensures,
       twins-of (x .kind .now) (x .name .now) (x .parent .now) (x .begin .now) (x .end .now) (x .item .now) _ _ _ _ (a .pre .1 .1 .1 .1 .1 .0)
-          (c .before .before .before .before .before .before .buckets .ensures) (c .before .before .before .before .chain2 .ensures),
+          (after-buckets c .buckets .ensures) (after-chain2 c .chain2 .ensures),
     )
 
 returns : tie.Need-returns

@@ -26,9 +26,21 @@ shared-slice-read-index c = search needs
 index-requires : tie.Need-index-requires Inv-loop μ-loop
 index-requires c κs = search needs
 
+-- from the call of `index2` back to the beginning of a turn
+abbrev turn : tie.After-index2 Inv-loop μ-loop → tie.In-loop Inv-loop μ-loop
+turn c = c .before .before .before .before
+
+-- from the first arm of `if1` back to the head of the loop
+abbrev head : tie.Then1 Inv-loop μ-loop → tie.At-loop Inv-loop μ-loop
+head c = c .before .before .before
+
+-- from the call of `index` back to the start
+abbrev entry : tie.After-index Inv-loop μ-loop → tie.Start Inv-loop μ-loop
+entry c = c .before .before .before .before .before .before .before .before
+
 loop-holds : tie.Need-loop-holds Inv-loop μ-loop
 loop-holds c =
-    let a = c .before .before .before .before .before .before .before .before in
+    let a = entry c in
     down-start _ _ _ _ _ _ _ (a .pre .3) _ (omega (arith, a .pre .3 .fits)) _ _ (c .index .ensures)
 
 sub-meets-item : tie.Need-sub-meets-item Inv-loop μ-loop
@@ -40,8 +52,8 @@ meets-item-requires c κs = search needs
 returns : tie.Need-returns Inv-loop μ-loop
 unfolding overlap versionOf
 returns c =
-    let a = c .before .before .before .before .before .before .before .before .before .before .before .before in
-    let s = c .before .before .before .loop in
+    let a = entry (head c .before) in
+    let s = head c .loop in
     down-hit _ _ _ _ _ _ _ (a .pre .3) _ (omega (arith, a .pre .3 .fits)) _ _ (s .inv) (c .before .before .loop-test .taken) _ (c .before .meets-item .ensures) (c .if1 .taken)
 
 sub-index : tie.Need-sub-index Inv-loop μ-loop
@@ -58,21 +70,21 @@ index-requires-2 c κs = search needs
 
 loop-less : tie.Need-loop-less Inv-loop μ-loop
 loop-less c =
-    let a = c .before .before .before .before .before .before .before .before .before .before .before .before .before .before in
-    let s = c .before .before .before .before .before .loop in
-    down-less _ _ _ _ _ _ _ (a .pre .3) _ (omega (arith, a .pre .3 .fits)) _ _ (s .inv) (c .before .before .before .before .loop-test .taken) _ (c .index2 .ensures)
+    let a = entry (turn c .before .before) in
+    let s = turn c .before .loop in
+    down-less _ _ _ _ _ _ _ (a .pre .3) _ (omega (arith, a .pre .3 .fits)) _ _ (s .inv) (turn c .loop-test .taken) _ (c .index2 .ensures)
 
 loop-again : tie.Need-loop-again Inv-loop μ-loop
 loop-again c =
-    let a = c .before .before .before .before .before .before .before .before .before .before .before .before .before .before in
-    let s = c .before .before .before .before .before .loop in
-    down-next _ _ _ _ _ _ _ (a .pre .3) _ (omega (arith, a .pre .3 .fits)) _ _ (s .inv) (c .before .before .before .before .loop-test .taken) _ (c .index2 .ensures)
+    let a = entry (turn c .before .before) in
+    let s = turn c .before .loop in
+    down-next _ _ _ _ _ _ _ (a .pre .3) _ (omega (arith, a .pre .3 .fits)) _ _ (s .inv) (turn c .loop-test .taken) _ (c .index2 .ensures)
     _ (c .before .before .before .meets-item .ensures) (c .before .before .if1 .left)
 
 returns-2 : tie.Need-returns-2 Inv-loop μ-loop
 unfolding overlap versionOf
 returns-2 c =
-    let a = c .before .before .before .before .before .before .before .before .before .before in
+    let a = entry (c .before .before) in
     down-end _ _ _ _ _ _ _ (a .pre .3) _ (omega (arith, a .pre .3 .fits)) _ _ (c .before .loop .inv) (c .loop-test .left)
 
 pub overlaps-spec : {M : Type 1} → statement M

@@ -19,8 +19,12 @@ Inv-loop kind parent begin end last₀ i₀ last i =
 abbrev μ-loop : tie.MeasureT-loop
 μ-loop kind parent begin end last₀ i₀ last i = length kind - i
 
+-- from `shared-slice-known4` back to the start
+abbrev entry : tie.After-shared-slice-known4 Inv-loop μ-loop → tie.Start Inv-loop μ-loop
+entry c = c .before .before .before .before
+
 loop-holds : tie.Need-loop-holds Inv-loop μ-loop
-loop-holds c = (refl, c .before .before .before .before .pre .few, pass-start _ _ refl)
+loop-holds c = (refl, entry c .pre .few, pass-start _ _ refl)
 
 shared-slice-read-if1 : tie.Need-shared-slice-read-if1 Inv-loop μ-loop
 shared-slice-read-if1 c = search needs
@@ -28,7 +32,7 @@ shared-slice-read-if1 c = search needs
 up-requires : tie.Need-up-requires Inv-loop μ-loop
 up-requires c κs =
     let turn = c .before .before in
-    let pre = turn .before .before .before .before .before .before .pre in
+    let pre = entry (turn .before .before) .pre in
     (omega arith, version-lower _ (pre .steady) _ (turn .loop-test .taken) (c .if1 .taken))
 
 mul-if2 : tie.Need-mul-if2 Inv-loop μ-loop
@@ -47,7 +51,7 @@ leaves-requires : tie.Need-leaves-requires Inv-loop μ-loop
 leaves-requires c κs =
     let version = c .before .before in
     let turn = version .before .before in
-    let pre = turn .before .before .before .before .before .before .pre in
+    let pre = entry (turn .before .before) .pre in
     way _ _ _ _ pre _ _ (turn .loop-test .taken) (version .if1 .taken) (c .before .up .ensures .0)
 
 returns : tie.Need-returns Inv-loop μ-loop
@@ -80,7 +84,7 @@ loop-again : tie.Need-loop-again Inv-loop μ-loop
 loop-again c =
     let turn = c .before .before in
     let inv = turn .before .loop .inv in
-    let pre = turn .before .before .before .before .before .before .pre in
+    let pre = entry (turn .before .before) .pre in
     ⊎-elim
     (λ w. rw (w .6) (
       simp length-set (inv .0),

@@ -36,12 +36,16 @@ returns c = at-root _ _ _ _ (c .if1 .taken)
 index-requires : tie.Need-index-requires
 index-requires c κs = search needs
 
+-- from `shared-slice-known2` back to the start
+abbrev entry : tie.After-shared-slice-known2 → tie.Start
+entry c = c .before .before .before .before
+
 shared-slice-read-result : tie.Need-shared-slice-read-result
-shared-slice-read-result c = omega (arith, c .before .before .before .before .pre (c .before .before .if1 .left) .0, c .before .index .ensures)
+shared-slice-read-result c = omega (arith, entry c .pre (c .before .before .if1 .left) .0, c .before .index .ensures)
 
 add-result : tie.Need-add-result
 add-result c =
-    let start = c .before .before .before .before in
+    let start = entry c in
     let room = start .pre (c .before .before .if1 .left) .1 in
     omega (arith, room, ap (λ p. getD (start .args .deep .now) p 0) (c .before .index .ensures), own (eqb (start .args .kind) 1) .1)
 

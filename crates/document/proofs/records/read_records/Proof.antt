@@ -19,8 +19,16 @@ Inv-loop kind vkind name parent begin end value item spare deep₀ i₀ deep i =
 abbrev μ-loop : tie.MeasureT-loop
 μ-loop kind vkind name parent begin end value item spare deep₀ i₀ deep i = length kind - i
 
+-- from `known-told` back to the beginning of a turn
+abbrev inside : tie.After-known-told Inv-loop μ-loop → tie.In-loop Inv-loop μ-loop
+inside c = c .before .before .before .before .before
+
+-- from `shared-slice-known8` back to the start
+abbrev entry : tie.After-shared-slice-known8 Inv-loop μ-loop → tie.Start Inv-loop μ-loop
+entry c = c .before .before .before .before .before .before .before .before
+
 loop-holds : tie.Need-loop-holds Inv-loop μ-loop
-loop-holds c = (refl, c .before .before .before .before .before .before .before .before .pre .few, seen-start _ _)
+loop-holds c = (refl, entry c .pre .few, seen-start _ _)
 
 gather-requires : tie.Need-gather-requires Inv-loop μ-loop
 gather-requires c κs = search needs
@@ -46,8 +54,8 @@ returns c =
 
 parent-fits-requires : tie.Need-parent-fits-requires Inv-loop μ-loop
 parent-fits-requires c κs =
-    let turn = c .before .before .before .before .before in
-    (turn .loop-test .taken, turn .before .before .before .before .before .before .before .before .before .before .pre .parent)
+    let turn = inside c in
+    (turn .loop-test .taken, entry (turn .before .before) .pre .parent)
 
 returns-2 : tie.Need-returns-2 Inv-loop μ-loop
 returns-2 c =
@@ -58,7 +66,7 @@ returns-2 c =
     (fits-same _ _ _ refl refl ∙ sym (c .before .parent-fits .ensures) ∙ not-true _ (c .if1 .taken))
 
 slice-aggregate-depth-at : tie.Need-slice-aggregate-depth-at Inv-loop μ-loop
-slice-aggregate-depth-at c = sym (c .before .before .before .before .before .before .before .before .before .loop .inv .0)
+slice-aggregate-depth-at c = sym (inside (c .before .before .before) .before .loop .inv .0)
 
 depth-at-requires : tie.Need-depth-at-requires Inv-loop μ-loop
 depth-at-requires c κs =

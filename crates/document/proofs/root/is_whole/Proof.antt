@@ -39,9 +39,13 @@ mul-last c = search needs
 shared-slice-read-last : tie.Need-shared-slice-read-last Inv-loop μ-loop
 shared-slice-read-last c = search needs
 
+-- from `shared-slice-known2` back to the beginning of a turn
+abbrev turn : tie.After-shared-slice-known2 Inv-loop μ-loop → tie.In-loop Inv-loop μ-loop
+turn c = c .before .before
+
 returns : tie.Need-returns Inv-loop μ-loop
 unfolding versionOf
-returns c = run-stop _ _ _ (c .before .before .before .before .before .before .loop .inv) (c .before .before .before .before .before .loop-test .taken) (c .before .before .if1 .taken) (c .if2 .left)
+returns c = run-stop _ _ _ (turn (c .before .before .before) .before .loop .inv) (turn (c .before .before .before) .loop-test .taken) (c .before .before .if1 .taken) (c .if2 .left)
 
 add-i : tie.Need-add-i Inv-loop μ-loop
 add-i c = search needs
@@ -52,7 +56,7 @@ loop-less c = search needs
 loop-again : tie.Need-loop-again Inv-loop μ-loop
 unfolding versionOf
 loop-again c =
-    let s = c .before .before .before .before .loop .inv in
+    let s = turn (c .before) .before .loop .inv in
     let h = c .before .before .before .loop-test .taken in
     ⊎-elim
     (λ w. rw (w .4) (run-on _ _ _ s h (w .0 .taken) (w .2 .taken)))

@@ -49,9 +49,17 @@ add-i c = search needs
 loop-less : tie.Need-loop-less Inv-loop μ-loop
 loop-less c = search needs
 
+-- from the call of `mark-of` back to the head of the loop
+abbrev head : tie.After-mark-of Inv-loop μ-loop → tie.At-loop Inv-loop μ-loop
+head c = c .before .before .before .before .before
+
+-- from the head of the loop back to the start
+abbrev entry : tie.At-loop Inv-loop μ-loop → tie.Start Inv-loop μ-loop
+entry c = c .before .before .before .before .before
+
 loop-again : tie.Need-loop-again Inv-loop μ-loop
 loop-again c =
-    let s = c .before .before .before .before .before .loop in
+    let s = head c .loop in
     let room : s .i < length (s .marks) = search needs in
     (omega arith, search needs, λ doc t w. mark-next _ (s .i) (c .mark-of .result) (s .marks) room (alive-at doc _ t w (c .mark-of .result) (s .i) (c .mark-of .ensures)) (s .inv .2 doc t w))
 
@@ -61,7 +69,7 @@ same-length c = search needs
 returns : tie.Need-returns Inv-loop μ-loop
 returns c =
     let s = c .before .loop in
-    let room : length (c .before .before .before .before .before .before .args .kind .now) ≤ length (s .marks) = search needs in
+    let room : length (entry (c .before) .args .kind .now) ≤ length (s .marks) = search needs in
     λ doc t w. marks-all _ (s .i) _ _ (omega (arith, t .size)) (omega (arith, t .size)) (s .inv .2 doc t w)
 
 pub mark-alive-spec : {M : Type 1} → statement M

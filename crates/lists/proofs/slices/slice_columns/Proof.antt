@@ -21,11 +21,19 @@ store-marked-requires c κs = search needs
 same-length : tie.Need-same-length
 same-length c = search needs
 
+-- from `slice-known2` back to the call of `mark-alive`
+abbrev after-mark-alive : tie.After-slice-known2 → tie.After-mark-alive
+after-mark-alive c = c .before .before .before .before .before .before
+
+-- from `slice-known2` back to the start
+abbrev entry : tie.After-slice-known2 → tie.Start
+entry c = after-mark-alive c .before .before .before .before .before .before
+
 returns : tie.Need-returns
 returns c =
-    let a = c .before .before .before .before .before .before .mark-alive in
+    let a = after-mark-alive c .mark-alive in
     let s = c .before .before .store-marked in
-    let lent = c .before .before .before .before .before .before .before .before .before .before .before .before .args .out .now in (
+    let lent = entry c .args .out .now in (
       λ doc t w. answer-of _ _ lent (picked-all (alive doc _) (doc .size) _ _ (a .ensures doc t w) (t .size)) (s .ensures .0),
       λ doc t w. lent-of _ _ lent (picked-all (alive doc _) (doc .size) _ _ (a .ensures doc t w) (t .size)) (s .result) _ (s .ensures .1),
     )

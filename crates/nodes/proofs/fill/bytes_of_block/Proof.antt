@@ -32,10 +32,14 @@ record-from-requires c κs = search needs
 add-i : tie.Need-add-i Inv-loop μ-loop
 add-i c = search needs
 
+-- from the head of the loop back to the start
+abbrev entry : tie.At-loop Inv-loop μ-loop → tie.Start Inv-loop μ-loop
+entry c = c .before .before .before
+
 shared-slice-read-out : tie.Need-shared-slice-read-out Inv-loop μ-loop
 shared-slice-read-out c =
-    let p = placed (c .before .before .before .before .before .before .args .b) (c .before .before .before .loop .k) (c .before .record-from .ensures) (search needs) in
-    omega (arith, p .size, c .before .before .before .before .before .before .pre .1 .in-record)
+    let p = placed (entry (c .before .before .before) .args .b) (c .before .before .before .loop .k) (c .before .record-from .ensures) (search needs) in
+    omega (arith, p .size, entry (c .before .before .before) .pre .1 .in-record)
 
 slice-write-out : tie.Need-slice-write-out Inv-loop μ-loop
 slice-write-out c = search needs
@@ -49,7 +53,7 @@ loop-less c = search needs
 loop-again : tie.Need-loop-again Inv-loop μ-loop
 loop-again c =
     let l = c .before .before .before .loop in
-    let a = c .before .before .before .before .before .before .args in
+    let a = entry (c .before .before .before) .args in
     let p = placed (a .b) (l .k) (c .before .record-from .ensures) (search needs) in
     (search needs, search needs, grows-more _ (25 * a .b) (l .k) (a .out .now) (l .out) _ (search needs) (l .inv .2) (ap (λ s. byte s (a .offset)) (p .bytes)))
 

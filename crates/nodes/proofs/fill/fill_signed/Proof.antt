@@ -29,9 +29,17 @@ add-b c = search needs
 loop-less : tie.Need-loop-less Inv-loop μ-loop
 loop-less c = search needs
 
+-- from `out2` back to the head of the loop
+abbrev head : tie.After-out2 Inv-loop μ-loop → tie.At-loop Inv-loop μ-loop
+head c = c .before .before .before .before
+
+-- from `out` back to the head of the loop
+abbrev head-from-out : tie.After-out Inv-loop μ-loop → tie.At-loop Inv-loop μ-loop
+head-from-out c = c .before .before .before .before
+
 loop-again : tie.Need-loop-again Inv-loop μ-loop
 loop-again c =
-    let l = c .before .before .before .before .loop in
+    let l = head-from-out c .loop in
     (search needs, search needs, filled-as _ (25 * l .b + 25) (25 * (l .b + 1)) _ _ (omega arith) (omega arith) (c .before .signed-of-block .ensures _ (l .inv .2)))
 
 signed-of-block-requires-2 : tie.Need-signed-of-block-requires-2 Inv-loop μ-loop
@@ -42,8 +50,8 @@ same-length c = search needs
 
 returns : tie.Need-returns Inv-loop μ-loop
 returns c =
-    let l = c .before .before .before .before .loop in
-    let n = c .before .before .before .before .before .before .args .n in
+    let l = head c .loop in
+    let n = head c .before .before .args .n in
     filled-as _ (25 * (n / 25) + n % 25) n _ _ (omega arith) (omega arith)
     (c .before .signed-of-block2 .ensures _ (filled-as _ (25 * l .b) (25 * (n / 25)) _ (l .out) (search needs) (search needs) (l .inv .2)))
 

@@ -34,10 +34,14 @@ record-from-requires c κs = search needs
 add-i : tie.Need-add-i Inv-loop μ-loop
 add-i c = search needs
 
+-- from the head of the loop back to the start
+abbrev entry : tie.At-loop Inv-loop μ-loop → tie.Start Inv-loop μ-loop
+entry c = c .before .before
+
 signed-at-requires : tie.Need-signed-at-requires Inv-loop μ-loop
 signed-at-requires c κs =
-    let p = placed (c .before .before .before .before .args .b) (c .before .before .loop .k) (c .record-from .ensures) (search needs) in
-    omega (arith, p .size, c .before .before .before .before .pre .1 .in-record)
+    let p = placed (entry (c .before .before) .args .b) (c .before .before .loop .k) (c .record-from .ensures) (search needs) in
+    omega (arith, p .size, entry (c .before .before) .pre .1 .in-record)
 
 mul-t14 : tie.Need-mul-t14 Inv-loop μ-loop
 mul-t14 c = search needs
@@ -54,7 +58,7 @@ loop-less c = search needs
 loop-again : tie.Need-loop-again Inv-loop μ-loop
 loop-again c =
     let l = c .before .before .before .loop in
-    let a = c .before .before .before .before .before .args in
+    let a = entry (c .before .before .before) .args in
     let p = placed (a .b) (l .k) (c .before .record-from .ensures) (search needs) in
     (search needs, search needs, grows-more _ (25 * a .b) (l .k) (a .out .now) (l .out) _ (search needs) (l .inv .2) (given w32 (c .signed-at .ok) ∙ c .signed-at .ensures ∙ ap (λ s. signed (four s (a .offset))) (p .bytes)))
 
