@@ -1,5 +1,5 @@
 -- What opened images are known to be: refused as both are read in turn, or both accepted, with the first one's document in the columns.
-use mathlib.Core.Path.{_≡_, refl, sym, _∙_}
+use mathlib.Core.Path.{_≡_, refl, sym, ap, _∙_}
 use mathlib.Core.List.{List}
 use Prim.Native.Nat.{ℕ}
 use lib.ListN.{length}
@@ -14,16 +14,28 @@ use Rattle.columns.specs.declared.Loaded.the-variants.{Nodes, Refused as Unload
 use Rattle.columns.specs.declared.Columns.{Columns}
 use Rattle.columns.specs.Lent.{Fronts}
 use Rattle.values.specs.Represents.{Represents}
-use Rattle.nodes.specs.Loading.{loaded}
+use Rattle.nodes.specs.Loading.{loaded, tellLoaded}
 use Rattle.nodes.specs.Unpacking.{Unpacks, together}
+use Rattle.rules.specs.Promises.{RulesPromise}
+use Rattle.rules.proofs.Promised.{read-as}
+use Rattle.nodes.proofs.Unique.{loaded-unique}
 use Rattle.nodes.proofs.Held.{told-refused, told-nodes, refused-image, held-image, size-held, whole-held, front-room}
-use Rattle.bank.specs.Opening.{Opens, Open}
+use Rattle.bank.specs.Opening.{afterRules, Opens, Open}
 
 -- a refusal stays one, whatever is read after it
 pub still : {a b : ℕ} (x y z : Reading) → andThen x y ≡ Refused a b → andThen x (andThen y z) ≡ Refused a b
 still (Refused a b) y z e = e
 still Accepted (Refused a b) z e = e
 still Accepted Accepted z e = absurd (contrary refl e)
+
+-- the table is read after the nodes
+in-turn : (x y : Reading) (m : ℕ) → afterRules (loaded x m) y ≡ loaded (andThen x y) m
+in-turn (Refused a b) y m = refl
+in-turn Accepted y m = refl
+
+pub table-told : (rules : List ℕ) {l : Loaded} {n : ℕ} → l ≡ Nodes n → (y : Reading) → RulesPromise rules y → {x : Loaded} → x ≡ loaded y n → x ≡ afterRules l (readRules rules)
+table-told rules {n = n} el y p e =
+    e ∙ ap (λ (z : Reading). loaded z n) (sym (read-as rules refl p)) ∙ ap (λ (y : Loaded). afterRules y (readRules rules)) (sym el)
 
 -- the columns of an accepted image, as far as its records go
 abbrev pub fronts : {image : List ℕ} {c : Columns} → Unpacks image c → {n : ℕ} → c .loaded ≡ Nodes n
@@ -45,23 +57,15 @@ fronts {image} u {n} e =
     }
 
 module _ {nodes : List ℕ} (rules : List ℕ) {c : Columns} where
-  -- the ways to open two images: the nodes are refused, or the rules, or neither
-  module _ (u : Unpacks nodes c) where
-    both : Loaded
-    both = loaded (andThen (readNodes nodes) (readRules rules)) (length (nodesOf nodes))
-
-    pub opens-refused : {a b : ℕ} → c .loaded ≡ Unloaded a b → Opens nodes rules c
-    opens-refused r = record { nodes-alone = c .loaded; columns = u; answer = rw (r, refused-image nodes (u .answer) r) }
-
-    module _ {n : ℕ} (r : c .loaded ≡ Nodes n) where
-      pub opens-both : readRules rules ≡ Accepted → Opens nodes rules c
-      opens-both t =
-          let h = held-image nodes (u .answer) r in
-          record { nodes-alone = c .loaded; columns = u; answer = rw (r, h .accepted, t, h .count) }
-
-      pub opens-neither : {a b : ℕ} → readRules rules ≡ Refused a b → {x : Columns}
-          → x ≡ together (Unloaded a b) (c .kind) (c .vkind) (c .name) (c .parent) (c .begin) (c .end) (c .value) (c .item) → Opens nodes rules x
-      opens-neither t e = rw e (record { nodes-alone = c .loaded; columns = u; answer = rw (held-image nodes (u .answer) r .accepted, t) })
+  pub opens : Unpacks nodes c → {l : Loaded} → l ≡ afterRules (c .loaded) (readRules rules)
+      → {x : Columns} → x ≡ together l (c .kind) (c .vkind) (c .name) (c .parent) (c .begin) (c .end) (c .value) (c .item) → Opens nodes rules x
+  opens u el e =
+      let alone : c .loaded ≡ loaded (readNodes nodes) (length (nodesOf nodes)) = loaded-unique _ _ (u .answer) in
+      rw e (record {
+        nodes-alone = c .loaded;
+        columns = u;
+        answer = ap tellLoaded (el ∙ ap (λ (y : Loaded). afterRules y (readRules rules)) alone ∙ in-turn (readNodes nodes) (readRules rules) (length (nodesOf nodes)));
+      })
 
   module _ (o : Opens nodes rules c) where
     pub refused-both : {a b : ℕ} → c .loaded ≡ Unloaded a b → andThen (readNodes nodes) (readRules rules) ≡ Refused a b

@@ -4,16 +4,23 @@ use mathlib.Core.List.{List}
 use Prim.Native.Nat.{ℕ}
 use lib.IntN.{ℤ}
 use lib.ListN.{length}
+use Rattle.meaning.specs.declared.Reading.{Reading}
 use Rattle.meaning.specs.declared.Reading.the-variants.{Accepted}
 use Rattle.meaning.specs.Order.{andThen}
 use Rattle.meaning.specs.Nodes.{nodesOf, docOf, readNodes}
 use Rattle.meaning.specs.Rules.{readRules}
 use Rattle.columns.specs.declared.Loaded.{Loaded}
+use Rattle.columns.specs.declared.Loaded.the-variants.{Nodes, Refused}
 use Rattle.columns.specs.declared.Columns.{Columns}
 use Rattle.columns.specs.Lent.{Fronts}
 use Rattle.nodes.specs.Loading.{loaded, tellLoaded}
 use Rattle.nodes.specs.Unpacking.{Unpacks, together}
 use Rattle.values.specs.Represents.{Represents}
+
+-- what came of a node image, then of a table
+abbrev pub afterRules : Loaded → Reading → Loaded
+afterRules (Nodes n) read = loaded read n
+afterRules (Refused number place) read = Refused number place
 
 -- the node image's refusal, then the table's, or how many records there are; and every entry of the columns, as the node image has them
 pub record Opens (nodes rules : List ℕ) (c : Columns) : Type 0 where

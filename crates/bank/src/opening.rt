@@ -2,11 +2,10 @@
 // Every call on images begins here.
 use columns::Columns;
 use columns::Loaded;
-use meaning::Reading;
-ghost use Rattle.columns.specs.declared.Loaded.the-variants.{Refused};
+ghost use Rattle.meaning.specs.Rules.{readRules};
 ghost use Rattle.nodes.specs.Unpacking.{Unpacks, together};
 ghost use mathlib.Core.Path.{_≡_};
-ghost use Rattle.bank.specs.Opening.{Opens};
+ghost use Rattle.bank.specs.Opening.{Opens, afterRules};
 
 // A node image by itself.
 pub fn open_nodes(nodes: &[u8]) -> Columns
@@ -15,9 +14,19 @@ pub fn open_nodes(nodes: &[u8]) -> Columns
     nodes::read_columns(nodes)
 }
 
-// The same columns, refused.
-fn refused(columns: Columns, number: usize, place: usize) -> Columns
-    ensures { λ r. ⌜ r ≡ together (Refused number place) (columns .kind) (columns .vkind) (columns .name) (columns .parent) (columns .begin) (columns .end) (columns .value) (columns .item) ⌝ }
+// What came of both images: the node image's refusal, then the table's, else how many records there are.
+fn after_rules(loaded: Loaded, rules: &[u8]) -> Loaded
+    ensures { λ r. ⌜ r ≡ afterRules loaded (readRules (now (rules .entry))) ⌝ }
+{
+    let Loaded::Nodes(n) = loaded else {
+        return loaded;
+    };
+    nodes::told(rules::read_rules(rules), n)
+}
+
+// The same columns, and what came of both images beside them.
+fn beside(columns: Columns, loaded: Loaded) -> Columns
+    ensures { λ r. ⌜ r ≡ together loaded (columns .kind) (columns .vkind) (columns .name) (columns .parent) (columns .begin) (columns .end) (columns .value) (columns .item) ⌝ }
 {
     let kind = columns.kind;
     let vkind = columns.vkind;
@@ -28,7 +37,7 @@ fn refused(columns: Columns, number: usize, place: usize) -> Columns
     let value = columns.value;
     let item = columns.item;
     Columns {
-        loaded: Loaded::Refused(number, place),
+        loaded,
         kind,
         vkind,
         name,
@@ -46,12 +55,5 @@ pub fn open(nodes: &[u8], rules: &[u8]) -> Columns
 {
     let columns = open_nodes(nodes);
     let loaded = columns.loaded;
-    let Loaded::Nodes(_) = loaded else {
-        return columns;
-    };
-    let read = rules::read_rules(rules);
-    let Reading::Refused(number, place) = read else {
-        return columns;
-    };
-    refused(columns, number, place)
+    beside(columns, after_rules(loaded, rules))
 }

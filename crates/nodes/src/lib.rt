@@ -97,7 +97,7 @@ fn accept_front(
 }
 
 // The answer on n records that were read.
-fn told(read: Reading, n: usize) -> Loaded
+pub fn told(read: Reading, n: usize) -> Loaded
     ensures { λ r. ⌜ r ≡ loaded read n ⌝ }
 {
     match read {
