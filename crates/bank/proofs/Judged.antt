@@ -29,20 +29,20 @@ module _ (nodes rules : List ℕ) (k : ℕ) where
   unfolding verdict readVerdict
   verdict-refused o r = rw (still (readNodes nodes) (readRules rules) _ (refused-both rules o r))
 
-  module _ (n : readNodes nodes ≡ reading.Accepted) (a : readRules rules ≡ reading.Accepted) {m : ℕ} (t : Table rules m) where
-    pub no-rule : m ≤ k → Right (Refused 11 0)
+  module _ {m : ℕ} (t : Table rules m) where
+    pub no-rule : readNodes nodes ≡ reading.Accepted → readRules rules ≡ reading.Accepted → m ≤ k → Right (Refused 11 0)
     unfolding verdict readVerdict
-    no-rule h = rw (n, a, le-ltb k (length (rulesOf rules)) (omega (arith, t .count)))
+    no-rule n a h = rw (n, a, le-ltb k (length (rulesOf rules)) (omega (arith, t .count)))
 
-    module _ (h : k < m) where
-      pub rule-here : k < length (rulesOf rules)
-      rule-here = omega (arith, t .count)
+    pub rule-here : k < m → k < length (rulesOf rules)
+    rule-here h = omega (arith, t .count)
 
-      -- what is judged of a rule and of the rule that it refers to is the verdict on the table's
-      pub rule-judged : {r : Rule} → r ≡ ruleAt (rulesOf rules) k → {q : Rule} → q ≡ referredOr (rulesOf rules) k
-          → {x : Verdict} → ((p : Rule) → (isReference r ≡ true → p ≡ q) → x ≡ judged (docOf nodes) p r) → Right x
-      unfolding verdict readVerdict
-      rule-judged er eq f =
-          rw (n, a, lt-ltb k (length (rulesOf rules)) rule-here)
-          (ap tellVerdict (f (referredBy (rulesOf rules) k) (λ e. sym (refers-to (rulesOf rules) k eq (ap isReference (sym er) ∙ e)))
-          ∙ ap (judged (docOf nodes) (referredBy (rulesOf rules) k)) er))
+  -- what is judged of a rule and of the rule that it refers to is the verdict on the table's
+  pub rule-judged : readNodes nodes ≡ reading.Accepted → readRules rules ≡ reading.Accepted → k < length (rulesOf rules)
+      → {r : Rule} → r ≡ ruleAt (rulesOf rules) k → {q : Rule} → q ≡ referredOr (rulesOf rules) k
+      → {x : Verdict} → ((p : Rule) → (isReference r ≡ true → p ≡ q) → x ≡ judged (docOf nodes) p r) → Right x
+  unfolding verdict readVerdict
+  rule-judged n a h er eq f =
+      rw (n, a, lt-ltb k (length (rulesOf rules)) h)
+      (ap tellVerdict (f (referredBy (rulesOf rules) k) (λ e. sym (refers-to (rulesOf rules) k eq (ap isReference (sym er) ∙ e)))
+      ∙ ap (judged (docOf nodes) (referredBy (rulesOf rules) k)) er))

@@ -40,11 +40,14 @@ pub fn change_days(nodes: &[u8], rules: &[u8], rule: usize, out: &mut [u16]) -> 
     }
 }
 
-// The verdict on a rule of opened images: a representative for each value is found first.
+// The verdict on a rule of opened images: 11 where there is no such rule; then a representative is found for each value.
 fn judge(columns: Columns, n: usize, rules: &[u8], rule: usize) -> Verdict
     requires { ⌜ ((nodes : List ℕ) × Opens nodes (now rules) columns) × (columns .loaded ≡ Nodes n) ⌝ }
     ensures { λ r. ⌜ ((nodes : List ℕ) → Opens nodes (now (rules .entry)) columns → VerdictPromise nodes (now (rules .entry)) rule r) ⌝ }
 {
+    if rules::count_rules(rules) <= rule {
+        return Verdict::Refused(11, 0);
+    }
     let rep = opened::represent(n, &columns.kind, &columns.vkind, &columns.value);
     opened::verdict_of(
         n,

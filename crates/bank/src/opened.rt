@@ -5,10 +5,11 @@ use meaning::Listed;
 use meaning::Verdict;
 ghost use mathlib.Core.Path.{_≡_};
 ghost use mathlib.Core.List.{List};
-ghost use Prim.Native.Nat.{ℕ, _-_, _≤_};
+ghost use Prim.Native.Nat.{ℕ, _-_, _≤_, _<_};
 ghost use lib.ListN.{length, take};
 ghost use Rattle.meaning.specs.Block.{limit};
 ghost use Rattle.meaning.specs.Document.{Doc};
+ghost use Rattle.meaning.specs.Rules.{rulesOf};
 ghost use Rattle.columns.specs.Lent.{Values};
 ghost use Rattle.columns.specs.declared.Loaded.the-variants.{Nodes};
 ghost use Rattle.nodes.specs.Unpacking.{Unpacks};
@@ -62,8 +63,7 @@ pub fn represent<'a>(n: usize, kind: &'a [u8], vkind: &'a [u8], value: &'a [i32]
     values::represent(&kind[0..n], &vkind[0..n], &value[0..n])
 }
 
-// The verdict on rule k of the table, over the first n entries of the columns, with a representative for each value: 11 where there is no
-// such rule. Cost: reading the rule, and the rule that it refers to, from the table; then the verdict on days or in windows.
+// The verdict on rule k of the table, over the first n entries of the columns, with a representative for each value. Cost: reading the rule, and the rule that it refers to, from the table; then the verdict on days or in windows.
 pub fn verdict_of<'a>(
     n: usize,
     kind: &'a [u8],
@@ -78,12 +78,9 @@ pub fn verdict_of<'a>(
     rules: &[u8],
     k: usize,
 ) -> Verdict
-    requires { ⌜ ((nodes : List ℕ) × Open nodes (now rules) n (now kind) (now vkind) (now name) (now parent) (now begin) (now end) (now value) (now item) (now rep)) ⌝ }
+    requires { ⌜ (k < length (rulesOf (now rules))) × ((nodes : List ℕ) × Open nodes (now rules) n (now kind) (now vkind) (now name) (now parent) (now begin) (now end) (now value) (now item) (now rep)) ⌝ }
     ensures { λ x. ⌜ ((nodes : List ℕ) → Open nodes (now (rules .entry)) n (now (kind .entry)) (now (vkind .entry)) (now (name .entry)) (now (parent .entry)) (now (begin .entry)) (now (end .entry)) (now (value .entry)) (now (item .entry)) (now (rep .entry)) → VerdictPromise nodes (now (rules .entry)) k x) ⌝ }
 {
-    if rules::count_rules(rules) <= k {
-        return Verdict::Refused(11, 0);
-    }
     let r = rules::rule_at(rules, k);
     let q = rules::referred_rule(rules, k);
     judging::judge_front(

@@ -2,6 +2,7 @@
 use mathlib.Core.Path.{_≡_, refl}
 use mathlib.Core.List.{List}
 use Prim.Native.Nat.{ℕ, _-_, _≤_}
+use native.Mathlib.Omega.{arith}
 use borrow.Author.Needs.{needs}
 use lib.ListN.{length}
 use Rattle.meaning.specs.Answer.{verdict}
@@ -35,7 +36,7 @@ loop-holds : tie.Need-loop-holds Inv-loop μ-loop
 loop-holds c = (refl, search needs, λ nodes o. rules-none _ _ _)
 
 verdict-of-requires : tie.Need-verdict-of-requires Inv-loop μ-loop
-verdict-of-requires c κs = start (c .before .before .before) .pre
+verdict-of-requires c κs = let n = c .before .before in (omega (arith, n .count-rules .ensures .count), start (n .before) .pre)
 
 put-rule-requires : tie.Need-put-rule-requires Inv-loop μ-loop
 put-rule-requires c κs = search needs
