@@ -88,3 +88,26 @@ module _ {nodes : List ℕ} (rules : List ℕ) {c : Columns} where
 
       pub opened : {reps : List ℕ} → Represents (docOf nodes) reps → Open nodes rules n (c .kind) (c .vkind) (c .name) (c .parent) (c .begin) (c .end) (c .value) (c .item) reps
       opened p = record { accepted = accepted-both .0; table = accepted-both .1; fronts = open-fronts; document = refl; represents = p }
+
+-- what came of both images, known without laying the columns anew
+module _ {nodes : List ℕ} (rules : List ℕ) {c : Columns} (u : Unpacks nodes c) {l : Loaded} (el : l ≡ afterRules (c .loaded) (readRules rules)) where
+  beside : Opens nodes rules (together l (c .kind) (c .vkind) (c .name) (c .parent) (c .begin) (c .end) (c .value) (c .item))
+  beside = opens rules u el refl
+
+  pub refused-after : {a b : ℕ} → l ≡ Unloaded a b → andThen (readNodes nodes) (readRules rules) ≡ Refused a b
+  refused-after e = refused-both rules beside e
+
+  module _ {n : ℕ} (e : l ≡ Nodes n) where
+    ok : (readNodes nodes ≡ Accepted) × (readRules rules ≡ Accepted)
+    ok = accepted-both rules beside e
+
+    count : n ≡ length (nodesOf nodes)
+    count = told-nodes (andThen (readNodes nodes) (readRules rules)) (length (nodesOf nodes)) (beside .answer) e .1
+
+    pub loaded-after : c .loaded ≡ Nodes n
+    loaded-after =
+        let alone : c .loaded ≡ loaded (readNodes nodes) (length (nodesOf nodes)) = loaded-unique _ _ (u .answer) in
+        alone ∙ rw (ok .0, sym count)
+
+    pub opens-after : Opens nodes rules c
+    opens-after = record { nodes-alone = c .loaded; columns = u; answer = rw (loaded-after, ok .0, ok .1, sym count) }

@@ -15,7 +15,7 @@ pub fn open_nodes(nodes: &[u8]) -> Columns
 }
 
 // What came of both images: the node image's refusal, then the table's, else how many records there are.
-fn after_rules(loaded: Loaded, rules: &[u8]) -> Loaded
+pub fn after_rules(loaded: Loaded, rules: &[u8]) -> Loaded
     ensures { λ r. ⌜ r ≡ afterRules loaded (readRules (now (rules .entry))) ⌝ }
 {
     let Loaded::Nodes(n) = loaded else {

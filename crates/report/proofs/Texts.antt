@@ -6,13 +6,16 @@ use native.Mathlib.Numerals.{add-one}
 use native.Mathlib.Omega.{arith}
 use lib.ListN.{length}
 use Rattle.meaning.specs.declared.Verdict.{Verdict}
-use Rattle.meaning.specs.Rules.{rulesOf}
+use Rattle.meaning.specs.declared.Reading.the-variants.{Refused}
+use Rattle.meaning.specs.Order.{andThen}
+use Rattle.meaning.specs.Nodes.{readNodes}
+use Rattle.meaning.specs.Rules.{rulesOf, readRules}
 use Rattle.meaning.specs.Answer.{verdict}
-use Rattle.columns.specs.declared.Loaded.the-variants.{Nodes, Refused as Unloaded}
+use Rattle.columns.specs.declared.Loaded.the-variants.{Nodes}
 use Rattle.columns.specs.declared.Columns.{Columns}
 use Rattle.bank.specs.Opening.{Opens}
 use Rattle.bank.specs.Promises.{VerdictPromise}
-use Rattle.bank.proofs.Opens.{refused-both, accepted-both}
+use Rattle.bank.proofs.Opens.{accepted-both}
 use Rattle.bank.proofs.Theorems.{verdict-unique}
 use Rattle.spelling.specs.Puts.{Puts}
 use Rattle.spelling.proofs.Pieces.{puts-none, puts-as, puts-then}
@@ -44,11 +47,11 @@ module _ (found : ℕ → Verdict) where
 pub promised : (nodes rules : List ℕ) (k : ℕ) {x : Verdict} → VerdictPromise nodes rules k x → x ≡ verdict nodes rules k
 promised nodes rules k {x} p = verdict-unique nodes rules k x (verdict nodes rules k) p refl
 
-module _ {nodes : List ℕ} (rules : List ℕ) {c : Columns} (o : Opens nodes rules c) where
-  pub refused-images : {a b : ℕ} → c .loaded ≡ Unloaded a b → refusedLine a b ≡ reportOf nodes rules
+module _ (nodes rules : List ℕ) where
+  pub refused-images : {a b : ℕ} → andThen (readNodes nodes) (readRules rules) ≡ Refused a b → refusedLine a b ≡ reportOf nodes rules
   unfolding reportOf lineOr
-  refused-images e = rw (refused-both rules o e) refl
+  refused-images e = rw e refl
 
-  pub accepted-images : {n : ℕ} → c .loaded ≡ Nodes n → header ++ ruleLines (verdict nodes rules) 0 (length (rulesOf rules)) ≡ reportOf nodes rules
+  pub accepted-images : {c : Columns} → Opens nodes rules c → {n : ℕ} → c .loaded ≡ Nodes n → header ++ ruleLines (verdict nodes rules) 0 (length (rulesOf rules)) ≡ reportOf nodes rules
   unfolding reportOf lineOr
-  accepted-images e = let ok = accepted-both rules o e in rw (ok .0, ok .1) refl
+  accepted-images o e = let ok = accepted-both rules o e in rw (ok .0, ok .1) refl

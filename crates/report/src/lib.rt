@@ -8,6 +8,7 @@ ghost use lib.ListN.{length};
 ghost use Rattle.meaning.specs.Rules.{rulesOf};
 ghost use Rattle.meaning.specs.Answer.{verdict};
 ghost use Rattle.columns.specs.declared.Loaded.the-variants.{Nodes};
+ghost use Rattle.nodes.specs.Unpacking.{Unpacks};
 ghost use Rattle.bank.specs.Opening.{Opens, Open};
 ghost use Rattle.spelling.specs.Puts.{Puts};
 ghost use Rattle.report.specs.Text.{ruleLines, reportOf};
@@ -82,14 +83,24 @@ fn put_table(text: &mut [u8], rules: &[u8], columns: Columns, n: usize) -> usize
     )
 }
 
+// The report on a node image that was opened: the line of a refusal, or the table. The columns are not laid anew beside the table's answer, as
+// `bank::opening::open` does, since on small banks the copy would show.
+fn report_rules(text: &mut [u8], rules: &[u8], columns: Columns) -> usize
+    requires { ⌜ ((image : List ℕ) × Unpacks image columns) ⌝ }
+    ensures { λ r. ⌜ ((image : List ℕ) → Unpacks image columns → Puts (now (text .entry)) 0 (reportOf image (now (rules .entry))) (now (text .exit)) r) ⌝ }
+{
+    let loaded = columns.loaded;
+    let both = bank::opening::after_rules(loaded, rules);
+    match both {
+        Loaded::Refused(number, place) => spelling::lines::put_refusal(text, number, place),
+        Loaded::Nodes(n) => put_table(text, rules, columns, n),
+    }
+}
+
 // The report on any two byte strings: each image is read once, whatever the number of rules.
 pub fn report(text: &mut [u8], nodes: &[u8], rules: &[u8]) -> usize
     ensures { λ r. ⌜ Puts (now (text .entry)) 0 (reportOf (now (nodes .entry)) (now (rules .entry))) (now (text .exit)) r ⌝ }
 {
-    let columns = bank::opening::open(nodes, rules);
-    let loaded = columns.loaded;
-    match loaded {
-        Loaded::Refused(number, place) => spelling::lines::put_refusal(text, number, place),
-        Loaded::Nodes(n) => put_table(text, rules, columns, n),
-    }
+    let columns = bank::opening::open_nodes(nodes);
+    report_rules(text, rules, columns)
 }

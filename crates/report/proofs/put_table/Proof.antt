@@ -49,7 +49,7 @@ returns c nodes o =
     let head = headed (r .before) in
     let loaded = start head .pre .1 in
     let f = open-fronts _ o loaded in
-    puts-as (puts-then (head .put-header .ensures) (lines .put-rules .ensures nodes (opened _ o loaded (r .represent .ensures (f .doc) (f .whole .values-held))))) (accepted-images _ o loaded)
+    puts-as (puts-then (head .put-header .ensures) (lines .put-rules .ensures nodes (opened _ o loaded (r .represent .ensures (f .doc) (f .whole .values-held))))) (accepted-images nodes _ o loaded)
 
 pub put-table-spec : {M : Type 1} → statement M
 put-table-spec =
