@@ -1,8 +1,6 @@
 -- `document::accept_columns` meets its contract: each way out is a stage of `accept`, and the record pass hands on what 7 asks.
-use mathlib.Core.Path.{sym, _∙_}
 use mathlib.Core.Bool.{true, false}
-use Rattle.meaning.specs.Document.{columns}
-use Rattle.document.proofs.Handed.{accepted-sound, sound-placing}
+use Rattle.document.proofs.Handed.{sound-placing}
 use Rattle.document.proofs.Stages.{by-record, by-place, by-clash, by-root}
 use borrow.Author.Needs.{needs}
 use Rattle.document.proofs.accept_columns.Statement.{statement}
@@ -34,9 +32,9 @@ returns c =
 
 first-misplaced-requires : tie.Need-first-misplaced-requires
 first-misplaced-requires c κs =
-    let a = entry (c .before .before) .args in
-    let passed = sym (c .before .before .read-records .ensures) ∙ c .enum-told .given .1 in
-    sound-placing (a .kind .now) (a .vkind .now) (a .name .now) (a .parent .now) (a .begin .now) (a .end .now) (a .value .now) (a .item .now) (a .spare .now) (entry (c .before .before) .pre) (accepted-sound (columns (a .kind .now) (a .vkind .now) (a .name .now) (a .parent .now) (a .begin .now) (a .end .now) (a .value .now) (a .item .now) (a .spare .now)) passed)
+    let read = c .before .before in
+    let a = entry read .args in
+    sound-placing (a .kind .now) (a .vkind .now) (a .name .now) (a .parent .now) (a .begin .now) (a .end .now) (a .value .now) (a .item .now) (a .spare .now) (entry read .pre) (read .read-records .result) (read .read-records .ensures) (c .enum-told .given .1)
 
 enum-known-misplaced : tie.Need-enum-known-misplaced
 enum-known-misplaced c = search needs
