@@ -5,12 +5,6 @@ use Rattle.document.proofs.Stages.{by-record, by-place, by-clash, by-ro
 use borrow.Author.Needs.{needs}
 use Rattle.document.proofs.accept_columns.Statement.{statement}
 use Rattle.document.proofs.accept_columns.Tie as tie
-use Rattle.document.proofs.accept_columns.Reads as reads
-use Rattle.document.proofs.accept_columns.Lts as lts
-use Rattle.document.proofs.clash.first_clash.Reads as first-clash-reads
-use Rattle.document.proofs.placing.first_misplaced.Reads as first-misplaced-reads
-use Rattle.document.proofs.records.read_records.Reads as read-records-reads
-use Rattle.document.proofs.root.is_whole.Reads as is-whole-reads
 
 read-records-requires : tie.Need-read-records-requires
 read-records-requires c κs = search needs
