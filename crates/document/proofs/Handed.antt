@@ -1,10 +1,11 @@
 -- From the record pass on to 7: what the one has shown is what the other asks, and 7 over its four columns is 7 over all nine.
-use mathlib.Core.Path.{_≡_, refl}
+use mathlib.Core.Path.{_≡_, refl, sym, _∙_}
 use mathlib.Core.List.{List}
 use Prim.Native.Nat.{ℕ}
 use native.Mathlib.Omega.{arith}
 use lib.IntN.{ℤ}
 use lib.ListN.{length}
+use Rattle.meaning.specs.declared.Reading.{Reading}
 use Rattle.meaning.specs.declared.Reading.the-variants.{Accepted}
 use Rattle.meaning.specs.Order.{earliest}
 use Rattle.meaning.specs.Walk.{first}
@@ -18,10 +19,10 @@ use Rattle.meaning.proofs.Walks.{first-same}
 use Rattle.document.specs.Columns.{Even}
 use Rattle.document.specs.Steady.{Steady, periods, Placing}
 
-pub accepted-sound : (doc : Doc) → earliest (readRecord doc) 0 (doc .size) ≡ Accepted → SoundRecords doc
+accepted-sound : (doc : Doc) → earliest (readRecord doc) 0 (doc .size) ≡ Accepted → SoundRecords doc
 accepted-sound doc e = sound-records doc .0 (λ i h. earliest-all (readRecord doc) 0 (doc .size) e i (omega arith) (omega arith))
 
-pub sound-steady : (doc : Doc) → SoundRecords doc → Steady doc
+sound-steady : (doc : Doc) → SoundRecords doc → Steady doc
 sound-steady doc r =
     record {
       lower = r .lower;
@@ -33,9 +34,10 @@ module _ (kinds vkinds names parents begins ends : List ℕ) (values : List ℤ)
   abbrev all : Doc
   all = columns kinds vkinds names parents begins ends values items spares
 
-  pub sound-placing : Even kinds vkinds names parents begins ends values items spares → SoundRecords all → Placing kinds parents begins ends
-  sound-placing s r =
-      let t = sound-steady all r in
+  -- x is what the record pass gave
+  pub sound-placing : Even kinds vkinds names parents begins ends values items spares → (x : Reading) → x ≡ earliest (readRecord all) 0 (length kinds) → x ≡ Accepted → Placing kinds parents begins ends
+  sound-placing s x ex ax =
+      let t = sound-steady all (accepted-sound all (sym ex ∙ ax)) in
       record {
         few = s .few;
         parent = s .parent;

@@ -1,8 +1,8 @@
 -- From a version up to the version in which its item stands: every record on that way is there, and its period is what 7 asks.
 use mathlib.Core.Path.{_≡_, sym, _∙_, ap}
 use mathlib.Core.Logic.{⊎-elim}
-use mathlib.Core.Bool.{false, _||_}
-use mathlib.Core.List.{List}
+use mathlib.Core.Bool.{Bool, false, _||_}
+use mathlib.Core.List.{List, []}
 use Prim.Native.Nat.{ℕ, _≤_, _<_}
 use native.Mathlib.Omega.{arith}
 use lib.Dec.{ltb}
@@ -11,7 +11,7 @@ use borrow.Author.Tests.{eq-eqb, ne-eqb}
 use Rattle.meaning.specs.Document.{Doc, above}
 use Rattle.meaning.specs.Nodes.{leaves}
 use Rattle.meaning.proofs.Basics.{le-or-lt}
-use Rattle.document.specs.Steady.{Steady, Placing, Way}
+use Rattle.document.specs.Steady.{Steady, periods, Placing, Way}
 
 module _ (doc : Doc) where
   -- the root is no version, so a version has a lower parent
@@ -27,10 +27,10 @@ module _ (doc : Doc) where
     unfolding leaves
     leaves-by a z e = rw (sym q, sym e, ne-eqb p 0 z, above)
 
--- whether a version leaves the period is read off the parents and the periods alone
-pub leaves-same : (a b : Doc) (v : ℕ) → a .parent ≡ b .parent → a .begin ≡ b .begin → a .end ≡ b .end → leaves a v ≡ leaves b v
+-- whether a version leaves the period is read off the parents and the periods, and not off the kinds
+pub leaves-same : (kinds parents begins ends : List ℕ) (v : ℕ) (out : Bool) → out ≡ leaves (periods [] parents begins ends) v → out ≡ leaves (periods kinds parents begins ends) v
 unfolding leaves
-leaves-same a b v p q r = rw (p, q, r)
+leaves-same kinds parents begins ends v out o = o
 
 pub way : (kinds parents begins ends : List ℕ) → Placing kinds parents begins ends → (v p : ℕ) → v < length kinds → getD kinds v 0 ≡ 2 → p ≡ getD parents v 0
     → Way parents begins ends v p

@@ -1,18 +1,10 @@
 -- `document::accept_columns` meets its contract: each way out is a stage of `accept`, and the record pass hands on what 7 asks.
-use mathlib.Core.Path.{sym, _∙_}
 use mathlib.Core.Bool.{true, false}
-use Rattle.meaning.specs.Document.{columns}
-use Rattle.document.proofs.Handed.{accepted-sound, sound-placing}
+use Rattle.document.proofs.Handed.{sound-placing}
 use Rattle.document.proofs.Stages.{by-record, by-place, by-clash, by-root}
 use borrow.Author.Needs.{needs}
 use Rattle.document.proofs.accept_columns.Statement.{statement}
 use Rattle.document.proofs.accept_columns.Tie as tie
-use Rattle.document.proofs.accept_columns.Reads as reads
-use Rattle.document.proofs.accept_columns.Lts as lts
-use Rattle.document.proofs.clash.first_clash.Reads as first-clash-reads
-use Rattle.document.proofs.placing.first_misplaced.Reads as first-misplaced-reads
-use Rattle.document.proofs.records.read_records.Reads as read-records-reads
-use Rattle.document.proofs.root.is_whole.Reads as is-whole-reads
 
 read-records-requires : tie.Need-read-records-requires
 read-records-requires c κs = search needs
@@ -34,9 +26,9 @@ returns c =
 
 first-misplaced-requires : tie.Need-first-misplaced-requires
 first-misplaced-requires c κs =
-    let a = entry (c .before .before) .args in
-    let passed = sym (c .before .before .read-records .ensures) ∙ c .enum-told .given .1 in
-    sound-placing (a .kind .now) (a .vkind .now) (a .name .now) (a .parent .now) (a .begin .now) (a .end .now) (a .value .now) (a .item .now) (a .spare .now) (entry (c .before .before) .pre) (accepted-sound (columns (a .kind .now) (a .vkind .now) (a .name .now) (a .parent .now) (a .begin .now) (a .end .now) (a .value .now) (a .item .now) (a .spare .now)) passed)
+    let read = c .before .before in
+    let a = entry read .args in
+    sound-placing (a .kind .now) (a .vkind .now) (a .name .now) (a .parent .now) (a .begin .now) (a .end .now) (a .value .now) (a .item .now) (a .spare .now) (entry read .pre) (read .read-records .result) (read .read-records .ensures) (c .enum-told .given .1)
 
 enum-known-misplaced : tie.Need-enum-known-misplaced
 enum-known-misplaced c = search needs

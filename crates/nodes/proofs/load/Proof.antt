@@ -60,28 +60,28 @@ unpack-requires c κs =
     room-for (a .image .now) (after-read-nodes (t .before) .read-nodes .ensures) (length (a .kind .now)) (length (a .vkind .now)) (length (a .name .now)) (length (a .parent .now)) (length (a .begin .now)) (length (a .end .now)) (length (a .value .now)) (length (a .item .now)) (t .before .before .before .enum-told .given .1) (n .result) (n .ensures .count) (t .before .has-room .ensures) (n .ensures .inside) (t .if1 .left)
 
 same-length : tie.Need-same-length
-same-length c = search needs
+same-length c = after-unpack c .unpack .kept .1 .1 .0
 
 same-length-2 : tie.Need-same-length-2
-same-length-2 c = search needs
+same-length-2 c = after-unpack c .unpack .kept .1 .1 .1 .0
 
 same-length-3 : tie.Need-same-length-3
-same-length-3 c = search needs
+same-length-3 c = after-unpack c .unpack .kept .1 .1 .1 .1 .0
 
 same-length-4 : tie.Need-same-length-4
-same-length-4 c = search needs
+same-length-4 c = after-unpack c .unpack .kept .1 .1 .1 .1 .1 .0
 
 same-length-5 : tie.Need-same-length-5
-same-length-5 c = search needs
+same-length-5 c = after-unpack c .unpack .kept .1 .1 .1 .1 .1 .1 .0
 
 same-length-6 : tie.Need-same-length-6
-same-length-6 c = search needs
+same-length-6 c = after-unpack c .unpack .kept .1 .1 .1 .1 .1 .1 .1 .0
 
 same-length-7 : tie.Need-same-length-7
-same-length-7 c = search needs
+same-length-7 c = after-unpack c .unpack .kept .1 .1 .1 .1 .1 .1 .1 .1 .0
 
 same-length-8 : tie.Need-same-length-8
-same-length-8 c = search needs
+same-length-8 c = after-unpack c .unpack .kept .1 .1 .1 .1 .1 .1 .1 .1 .1 .0
 
 returns-3 : tie.Need-returns-3
 unfolding nodeIn

@@ -31,9 +31,13 @@ after-unpack c = c .before .before .before .before .before .before .before .befo
 abbrev after-count-records : tie.After-unpack-arg8 → tie.After-count-records
 after-count-records c = c .before .before .before .before .before .before .before .before
 
+-- from the call of `told2` back to the call of `unpack`
+abbrev unpacked : tie.After-told2 → tie.After-unpack
+unpacked c = after-unpack (after-fill-pairs (c .before .before) .before)
+
 -- from the call of `told2` back to `enum-told`
 abbrev after-enum-told : tie.After-told2 → tie.After-enum-told
-after-enum-told c = after-count-records (after-unpack (after-fill-pairs (c .before .before) .before) .before) .before
+after-enum-told c = after-count-records (unpacked c .before) .before
 
 -- from the call of `node-blocks` back to the start
 abbrev entry : tie.After-node-blocks → tie.Start
@@ -90,37 +94,37 @@ told-requires-2 : tie.Need-told-requires-2
 told-requires-2 c κs = search needs
 
 same-length : tie.Need-same-length
-same-length c = search needs
+same-length c = unpacked c .unpack .kept .1 .1 .0
 
 same-length-2 : tie.Need-same-length-2
-same-length-2 c = search needs
+same-length-2 c = unpacked c .unpack .kept .1 .1 .1 .0
 
 same-length-3 : tie.Need-same-length-3
-same-length-3 c = search needs
+same-length-3 c = unpacked c .unpack .kept .1 .1 .1 .1 .0
 
 same-length-4 : tie.Need-same-length-4
-same-length-4 c = search needs
+same-length-4 c = unpacked c .unpack .kept .1 .1 .1 .1 .1 .0
 
 same-length-5 : tie.Need-same-length-5
-same-length-5 c = search needs
+same-length-5 c = unpacked c .unpack .kept .1 .1 .1 .1 .1 .1 .0
 
 same-length-6 : tie.Need-same-length-6
-same-length-6 c = search needs
+same-length-6 c = unpacked c .unpack .kept .1 .1 .1 .1 .1 .1 .1 .0
 
 same-length-7 : tie.Need-same-length-7
-same-length-7 c = search needs
+same-length-7 c = unpacked c .unpack .kept .1 .1 .1 .1 .1 .1 .1 .1 .0
 
 same-length-8 : tie.Need-same-length-8
-same-length-8 c = search needs
+same-length-8 c = unpacked c .unpack .kept .1 .1 .1 .1 .1 .1 .1 .1 .1 .0
 
 same-length-9 : tie.Need-same-length-9
-same-length-9 c = search needs
+same-length-9 c = after-fill-pairs (c .before .before) .fill-pairs .kept .1 .1 .1 .0
 
 returns-2 : tie.Need-returns-2
 returns-2 c =
-    let n = after-count-records (after-unpack (after-fill-pairs (c .before .before) .before) .before) .count-records in
+    let n = after-count-records (unpacked c .before) .count-records in
     let blocks = after-enum-told c .before .before .node-blocks .ensures in
-    let u = after-unpack (after-fill-pairs (c .before .before) .before) .unpack .ensures in
+    let u = unpacked c .unpack .ensures in
     let start = entry (after-enum-told c .before .before) in
     unpacks-all (start .args .image .now) (sym blocks ∙ after-enum-told c .enum-told .given .1) (n .result) (n .ensures .count) (start .pre)
     (u .0) (u .1 .0) (u .1 .1 .0) (u .1 .1 .1 .0) (u .1 .1 .1 .1 .0) (u .1 .1 .1 .1 .1 .0) (u .1 .1 .1 .1 .1 .1 .0) (u .1 .1 .1 .1 .1 .1 .1) (after-fill-pairs (c .before .before) .fill-pairs .ensures) (c .before .accept-front .ensures) (c .told2 .ensures)

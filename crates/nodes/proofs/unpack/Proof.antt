@@ -61,28 +61,28 @@ fill-quads-requires : tie.Need-fill-quads-requires
 fill-quads-requires c κs = let p = entry (c .before .before .before) .pre in record { inside = p .inside; in-record = omega arith; fits = p .item }
 
 same-length : tie.Need-same-length
-same-length c = search needs
+same-length c = after-fill-bytes c .fill-bytes .kept .1 .1 .1 .0
 
 same-length-2 : tie.Need-same-length-2
-same-length-2 c = search needs
+same-length-2 c = after-fill-bytes2 c .fill-bytes2 .kept .1 .1 .1 .0
 
 same-length-3 : tie.Need-same-length-3
-same-length-3 c = search needs
+same-length-3 c = after-fill-pairs c .fill-pairs .kept .1 .1 .1 .0
 
 same-length-4 : tie.Need-same-length-4
-same-length-4 c = search needs
+same-length-4 c = after-fill-pairs2 c .fill-pairs2 .kept .1 .1 .1 .0
 
 same-length-5 : tie.Need-same-length-5
-same-length-5 c = search needs
+same-length-5 c = after-fill-pairs3 c .fill-pairs3 .kept .1 .1 .1 .0
 
 same-length-6 : tie.Need-same-length-6
-same-length-6 c = search needs
+same-length-6 c = after-fill-pairs4 c .fill-pairs4 .kept .1 .1 .1 .0
 
 same-length-7 : tie.Need-same-length-7
-same-length-7 c = search needs
+same-length-7 c = after-fill-signed c .fill-signed .kept .1 .1 .1 .0
 
 same-length-8 : tie.Need-same-length-8
-same-length-8 c = search needs
+same-length-8 c = c .before .before .fill-quads .kept .1 .1 .1 .0
 
 returns : tie.Need-returns
 returns c = (after-fill-bytes c .fill-bytes .ensures, (after-fill-bytes2 c .fill-bytes2 .ensures, (after-fill-pairs c .fill-pairs .ensures, (after-fill-pairs2 c .fill-pairs2 .ensures, (after-fill-pairs3 c .fill-pairs3 .ensures, (after-fill-pairs4 c .fill-pairs4 .ensures, (after-fill-signed c .fill-signed .ensures, c .before .before .fill-quads .ensures)))))))

@@ -54,13 +54,13 @@ clashes-with-requires : tie.Need-clashes-with-requires Inv-loop μ-loop
 clashes-with-requires c κs =
     let p = entry (c .before .before) .pre in
     let s = c .before .loop .inv in
-    (p .0, p .1, omega (arith, s .1 .low), lowered-item _ _ (s .0) _ (p .1) (else1 (c .before) .if1 .left) _ (s .1) (omega arith), p .2)
+    (p .0, p .1, omega (arith, s .1 .low), lowered-item _ _ (s .0) _ (p .1) (else1 (c .before) .if1 .left) _ (s .1) (c .loop-test .taken), p .2)
 
 returns-2 : tie.Need-returns-2 Inv-loop μ-loop
 returns-2 c =
     let p = entry (head (c .before) .before) .pre in
     let s = c .before .before .before .loop .inv in
-    lowered-hit _ _ (s .0) _ (p .1) (else1 (head (c .before)) .if1 .left) _ (s .1) (omega arith) _ (c .before .clashes-with .ensures) (c .if2 .taken)
+    lowered-hit _ _ (s .0) _ (p .1) (else1 (head (c .before)) .if1 .left) _ (s .1) (c .before .before .loop-test .taken) _ (c .before .clashes-with .ensures) (c .if2 .taken)
 
 sub-index : tie.Need-sub-index Inv-loop μ-loop
 sub-index c = search needs
@@ -76,19 +76,21 @@ index-requires-2 c κs = search needs
 
 loop-less : tie.Need-loop-less Inv-loop μ-loop
 loop-less c =
-    let top = head (c .before .before .before) in
+    let call = c .before .before .before in
+    let top = head call in
     let p = entry (top .before) .pre in
     let s = top .loop .inv in
-    lowered-less _ _ (s .0) _ (p .1) (else1 top .if1 .left) _ (s .1) (omega arith) _ (c .index2 .ensures)
+    lowered-less _ _ (s .0) _ (p .1) (else1 top .if1 .left) _ (s .1) (call .before .loop-test .taken) _ (c .index2 .ensures)
 
 loop-again : tie.Need-loop-again Inv-loop μ-loop
 loop-again c =
-    let top = head (c .before .before .before) in
+    let call = c .before .before .before in
+    let top = head call in
     let p = entry (top .before) .pre in
     let s = top .loop .inv in (
       s .0,
-      lowered-next _ _ (s .0) _ (p .1) (else1 top .if1 .left) _ (s .1) (omega arith) _ (c .index2 .ensures)
-          _ (c .before .before .before .clashes-with .ensures) (c .before .before .if2 .left),
+      lowered-next _ _ (s .0) _ (p .1) (else1 top .if1 .left) _ (s .1) (call .before .loop-test .taken) _ (c .index2 .ensures)
+          _ (call .clashes-with .ensures) (c .before .before .if2 .left),
     )
 
 returns-3 : tie.Need-returns-3 Inv-loop μ-loop

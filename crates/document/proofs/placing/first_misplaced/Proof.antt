@@ -1,7 +1,7 @@
 -- `document::placing::first_misplaced` meets its contract. The invariant: every version below i was placed, and `last` has the last end for each item.
 -- Assumes nothing.
 use Prim.Native.Nat.{_≤_, _-_}
-use mathlib.Core.Path.{_≡_, refl, _∙_}
+use mathlib.Core.Path.{_≡_, refl}
 use mathlib.Core.Logic.{⊎-elim}
 use native.Mathlib.Omega.{arith}
 use borrow.Author.Needs.{needs}
@@ -59,7 +59,9 @@ returns c =
     let item = c .before .before .before in
     let version = item .before in
     let turn = version .before .before in
-    pass-hit _ _ _ (turn .before .loop .inv .2) (version .if1 .taken) _ (item .up .ensures .0) _ (c .before .leaves .ensures ∙ leaves-same _ _ _ refl refl refl)
+    let a = entry (turn .before .before) .args in
+    let place = turn .before .loop .i in
+    pass-hit _ _ place (turn .before .loop .inv .2) (version .if1 .taken) _ (item .up .ensures .0) _ (leaves-same (a .kind .now) (a .parent .now) (a .begin .now) (a .end .now) place _ (c .before .leaves .ensures))
     (c .if2 .taken) (turn .loop-test .taken)
 
 mul-last : tie.Need-mul-last Inv-loop μ-loop
@@ -84,13 +86,15 @@ loop-again : tie.Need-loop-again Inv-loop μ-loop
 loop-again c =
     let turn = c .before .before in
     let inv = turn .before .loop .inv in
-    let pre = entry (turn .before .before) .pre in
+    let start = entry (turn .before .before) in
+    let a = start .args in
+    let place = turn .before .loop .i in
     ⊎-elim
     (λ w. rw (w .6) (
       simp length-set (inv .0),
       simp length-set (inv .1),
-      pass-store _ _ _ (inv .2) (w .0 .taken) _ (w .1 .ensures .0) _ (w .3 .ensures ∙ leaves-same _ _ _ refl refl refl) (w .4 .left)
-          (omega (arith, w .1 .ensures .1)) (pre .steady .period _ (turn .loop-test .taken) (w .0 .taken)),
+      pass-store _ _ place (inv .2) (w .0 .taken) _ (w .1 .ensures .0) _ (leaves-same (a .kind .now) (a .parent .now) (a .begin .now) (a .end .now) place _ (w .3 .ensures)) (w .4 .left)
+          (omega (arith, w .1 .ensures .1)) (start .pre .steady .period place (turn .loop-test .taken) (w .0 .taken)),
     ))
     (λ w. rw (w .1) (inv .0, inv .1, pass-skip _ _ _ (inv .2) (w .0 .left)))
     (c .if1 .came)
