@@ -22,9 +22,17 @@ shared-slice-read-index c = search needs
 index-requires : tie.Need-index-requires Inv-loop μ-loop
 index-requires c κs = search needs
 
+-- from `shared-slice-known8` back to the head of the loop
+abbrev head : tie.After-shared-slice-known8 Inv-loop μ-loop → tie.At-loop Inv-loop μ-loop
+head c = c .before .before .before
+
+-- from the call of `index` back to the start
+abbrev entry : tie.After-index Inv-loop μ-loop → tie.Start Inv-loop μ-loop
+entry c = c .before .before .before .before .before .before .before
+
 loop-holds : tie.Need-loop-holds Inv-loop μ-loop
 loop-holds c =
-    let p = c .before .before .before .before .before .before .before .pre in
+    let p = entry c .pre in
     (p .1, falling-start _ _ (p .1) _ (p .3) (p .5) _ (c .index .ensures))
 
 sub-if1 : tie.Need-sub-if1 Inv-loop μ-loop
@@ -53,8 +61,8 @@ shared-slice-read-result c = search needs
 
 returns : tie.Need-returns Inv-loop μ-loop
 returns c =
-    let p = c .before .before .before .before .before .before .before .before .before .before .before .before .before .pre in
-    let s = c .before .before .before .before .before .loop .inv in
+    let p = entry (head (c .before .before) .before) .pre in
+    let s = head (c .before .before) .loop .inv in
     falling-hit _ _ (s .0) _ (p .3) (p .5) _ (s .1) (omega arith) _ (p .4) (c .before .if1 .taken)
 
 sub-index : tie.Need-sub-index Inv-loop μ-loop
@@ -71,14 +79,14 @@ index-requires-2 c κs = search needs
 
 loop-less : tie.Need-loop-less Inv-loop μ-loop
 loop-less c =
-    let p = c .before .before .before .before .before .before .before .before .before .before .before .before .before .before .pre in
-    let s = c .before .before .before .before .before .before .loop .inv in
+    let p = entry (head (c .before .before .before) .before) .pre in
+    let s = head (c .before .before .before) .loop .inv in
     falling-less _ _ (s .0) _ (p .3) (p .5) _ (s .1) (omega arith) _ (c .index2 .ensures)
 
 loop-again : tie.Need-loop-again Inv-loop μ-loop
 loop-again c =
-    let p = c .before .before .before .before .before .before .before .before .before .before .before .before .before .before .pre in
-    let s = c .before .before .before .before .before .before .loop .inv in
+    let p = entry (head (c .before .before .before) .before) .pre in
+    let s = head (c .before .before .before) .loop .inv in
     (s .0, falling-next _ _ (s .0) _ (p .3) (p .5) _ (s .1) (omega arith) _ (c .index2 .ensures) (c .before .before .if1 .left))
 
 cast-result : tie.Need-cast-result Inv-loop μ-loop
@@ -86,7 +94,7 @@ cast-result c = search needs
 
 returns-2 : tie.Need-returns-2 Inv-loop μ-loop
 returns-2 c =
-    let p = c .before .before .before .before .before .before .before .before .before .pre in
+    let p = entry (c .before .before) .pre in
     let s = c .before .loop .inv in
     falling-end _ _ (s .0) _ (p .3) (p .5) _ (s .1) (c .loop-test .left)
 

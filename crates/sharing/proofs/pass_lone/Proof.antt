@@ -25,12 +25,28 @@ Inv-loop at next last lower begin end rep group from to base seen₀ v₀ seen v
 abbrev μ-loop : tie.MeasureT-loop
 μ-loop at next last lower begin end rep group from to base seen₀ v₀ seen v = length begin - v
 
+-- from `slice-known2` back to the call of `stops`
+abbrev after-stops : tie.After-slice-known2 Inv-loop μ-loop → tie.After-stops Inv-loop μ-loop
+after-stops c = c .before .before
+
+-- from the call of `index` back to the beginning of a turn
+abbrev turn : tie.After-index Inv-loop μ-loop → tie.In-loop Inv-loop μ-loop
+turn c = c .before .before .before .before .before .before .before
+
+-- from `slice-known2` back to the head of the loop
+abbrev head : tie.After-slice-known2 Inv-loop μ-loop → tie.At-loop Inv-loop μ-loop
+head c = c .before .before .before .before .before
+
+-- from `slice-known` back to the start
+abbrev entry : tie.After-slice-known Inv-loop μ-loop → tie.Start Inv-loop μ-loop
+entry c = c .before .before .before .before .before .before .before .before
+
 loop-holds : tie.Need-loop-holds Inv-loop μ-loop
-loop-holds c = (refl, c .before .before .before .before .before .before .before .before .pre .8, omega arith, λ doc r start needy held k. k)
+loop-holds c = (refl, entry c .pre .8, omega arith, λ doc r start needy held k. k)
 
 stops-requires : tie.Need-stops-requires Inv-loop μ-loop
 stops-requires c κs =
-    let pre = c .before .before .before .before .before .before .before .before .before .before .before .pre in
+    let pre = entry (c .before .before .before) .pre in
     let s = c .before .before .loop in
     let e = sized _ _ _ _ _ _ _ _ _ (pre .4) in (
       c .before .loop-test .taken,
@@ -45,9 +61,9 @@ same-length c = search needs
 
 returns : tie.Need-returns Inv-loop μ-loop
 returns c =
-    let pre = c .before .before .before .before .before .before .before .before .before .before .before .before .before .before .before .pre in
-    let s = c .before .before .before .before .before .before .loop in
-    let h = c .before .before .before .before .before .loop-test .taken in
+    let pre = entry (head (c .before) .before) .pre in
+    let s = head (c .before) .loop in
+    let h = after-stops (c .before) .before .before .loop-test .taken in
     let k = s .inv .3 (pre .0) (pre .1) (pre .2) (pre .3) (pre .4) (pre .7) in
     let stands = c .before .before .before .stops .ensures (inRow (pre .0) (pre .1) (s .v)) (laid _ _ _ _ _ _ _ _ _ (pre .4) .chains (s .v) h (k .come .is-chosen h)) .stands (c .if1 .taken) in (
       λ doc r start needy held i. shared-still _ _ _ _ _ _ _ _ _ _ _ (stands .1) (s .inv .3 doc r start needy held i),
@@ -55,24 +71,24 @@ returns c =
     )
 
 mul-index : tie.Need-mul-index Inv-loop μ-loop
-mul-index c = omega (arith, next-room _ _ _ _ _ _ _ _ _ (c .before .before .before .before .before .before .before .before .before .before .before .before .before .before .before .pre .4), c .before .before .before .before .before .before .before .before .before .before .before .before .before .before .before .good)
+mul-index c = omega (arith, next-room _ _ _ _ _ _ _ _ _ (entry (head (c .before) .before) .pre .4), entry (head (c .before) .before) .good)
 
 shared-slice-read-index : tie.Need-shared-slice-read-index Inv-loop μ-loop
-shared-slice-read-index c = omega (arith, next-room _ _ _ _ _ _ _ _ _ (c .before .before .before .before .before .before .before .before .before .before .before .before .before .before .before .before .pre .4))
+shared-slice-read-index c = omega (arith, next-room _ _ _ _ _ _ _ _ _ (entry (head (c .before .before) .before) .pre .4))
 
 index-requires : tie.Need-index-requires Inv-loop μ-loop
 index-requires c κs = search needs
 
 loop-less : tie.Need-loop-less Inv-loop μ-loop
-loop-less c = next-more _ _ _ _ _ _ _ _ _ (c .before .before .before .before .before .before .before .before .before .before .before .before .before .before .before .before .before .pre .4) _ (c .before .before .before .before .before .before .before .loop-test .taken) _ (c .index .ensures)
+loop-less c = next-more _ _ _ _ _ _ _ _ _ (entry (turn c .before .before) .pre .4) _ (turn c .loop-test .taken) _ (c .index .ensures)
 
 loop-again : tie.Need-loop-again Inv-loop μ-loop
 loop-again c =
-    let pre = c .before .before .before .before .before .before .before .before .before .before .before .before .before .before .before .before .before .pre in
-    let s = c .before .before .before .before .before .before .before .before .loop in
-    let h = c .before .before .before .before .before .before .before .loop-test .taken in
+    let pre = entry (turn c .before .before) .pre in
+    let s = turn c .before .loop in
+    let h = turn c .loop-test .taken in
     let no = c .before .before .if1 .left in
-    let passed = c .before .before .before .before .before .stops .ensures in
+    let passed = after-stops (c .before .before .before) .stops .ensures in
     let k = s .inv .3 (pre .0) (pre .1) (pre .2) (pre .3) (pre .4) (pre .7) in (
       search needs,
       passed (inRow (pre .0) (pre .1) (s .v)) (laid _ _ _ _ _ _ _ _ _ (pre .4) .chains (s .v) h (k .come .is-chosen h)) .met no (pre .3) .below _

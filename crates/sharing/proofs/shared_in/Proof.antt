@@ -32,9 +32,33 @@ cast-base c = search needs
 mul-base : tie.Need-mul-base Inv-loop μ-loop
 mul-base c = search needs
 
+-- from `slice-known4` back to the call of `index`
+abbrev after-index : tie.After-slice-known4 Inv-loop μ-loop → tie.After-index Inv-loop μ-loop
+after-index c = c .before .before .before .before
+
+-- from the call of `index` back to the other arm of `if1`
+abbrev else1 : tie.After-index Inv-loop μ-loop → tie.Else1 Inv-loop μ-loop
+else1 c = c .before .before
+
+-- from `slice-known3` back to the beginning of a turn
+abbrev turn : tie.After-slice-known3 Inv-loop μ-loop → tie.In-loop Inv-loop μ-loop
+turn c = c .before .before .before .before
+
+-- from the other arm of `if1` back to the head of the loop
+abbrev head : tie.Else1 Inv-loop μ-loop → tie.At-loop Inv-loop μ-loop
+head c = turn (c .before) .before
+
+-- from `pass-lone-arg` back to the start
+abbrev entry-from-pass-lone-arg : tie.After-pass-lone-arg Inv-loop μ-loop → tie.Start Inv-loop μ-loop
+entry-from-pass-lone-arg c = c .before .before .before .before .before .before .before .before .before
+
+-- from the head of the loop back to the start
+abbrev entry : tie.At-loop Inv-loop μ-loop → tie.Start Inv-loop μ-loop
+entry c = entry-from-pass-lone-arg (c .before .before .before .before)
+
 pass-lone-requires : tie.Need-pass-lone-requires Inv-loop μ-loop
 pass-lone-requires c κs =
-    let start = c .before .before .before .before .before .before .before .before .before in
+    let start = entry-from-pass-lone-arg c in
     let pre = start .pre in (
       pre .0,
       pre .1,
@@ -50,7 +74,7 @@ pass-lone-requires c κs =
 
 loop-holds : tie.Need-loop-holds Inv-loop μ-loop
 loop-holds c =
-    let pre = c .before .before .before .before .before .before .before .before .before .before .before .before .pre in
+    let pre = entry-from-pass-lone-arg (c .before .before .before) .pre in
     let passed = c .before .before .pass-lone .ensures in (
       search needs,
       passed .1 .1,
@@ -60,7 +84,7 @@ loop-holds c =
 
 row-shares-requires : tie.Need-row-shares-requires Inv-loop μ-loop
 row-shares-requires c κs =
-    let start = c .before .before .before .before .before .before .before .before .before .before .before .before .before .before .before in
+    let start = entry (c .before .before) in
     let pre = start .pre in
     let s = c .before .before .loop in
     let h = c .before .loop-test .taken in (
@@ -79,9 +103,9 @@ same-length c = search needs
 
 returns : tie.Need-returns Inv-loop μ-loop
 returns c =
-    let pre = c .before .before .before .before .before .before .before .before .before .before .before .before .before .before .before .before .before .before .before .pre in
-    let s = c .before .before .before .before .before .before .loop in
-    let h = c .before .before .before .before .before .loop-test .taken in
+    let pre = entry (turn (c .before) .before) .pre in
+    let s = turn (c .before) .before .loop in
+    let h = turn (c .before) .loop-test .taken in
     let met = c .before .before .before .row-shares .ensures in
     let tokens = met (inRow (pre .0) (pre .1) (s .v)) (laid _ _ _ _ _ _ _ _ _ (pre .2) .chains (s .v) h (s .inv .3 (pre .0) (pre .1) (pre .2) .come .is-chosen h)) .below _
     (omega (arith, pre .3 .low (s .v) (omega (arith, h, sized _ _ _ _ _ _ _ _ _ (pre .2))), pre .4)) (s .inv .1) in (
@@ -93,22 +117,23 @@ returns c =
     )
 
 mul-index : tie.Need-mul-index Inv-loop μ-loop
-mul-index c = omega (arith, next-room _ _ _ _ _ _ _ _ _ (c .before .before .before .before .before .before .before .before .before .before .before .before .before .before .before .before .before .before .before .pre .2), c .before .before .before .before .before .before .before .before .before .before .before .before .before .before .before .before .before .before .before .good)
+mul-index c = omega (arith, next-room _ _ _ _ _ _ _ _ _ (entry (head c) .pre .2), entry (head c) .good)
 
 shared-slice-read-index : tie.Need-shared-slice-read-index Inv-loop μ-loop
-shared-slice-read-index c = omega (arith, next-room _ _ _ _ _ _ _ _ _ (c .before .before .before .before .before .before .before .before .before .before .before .before .before .before .before .before .before .before .before .before .pre .2))
+shared-slice-read-index c = omega (arith, next-room _ _ _ _ _ _ _ _ _ (entry (head (c .before)) .pre .2))
 
 index-requires : tie.Need-index-requires Inv-loop μ-loop
 index-requires c κs = search needs
 
 pass-lone-requires-2 : tie.Need-pass-lone-requires-2 Inv-loop μ-loop
 pass-lone-requires-2 c κs =
-    let start = c .before .before .before .before .before .before .before .before .before .before .before .before .before .before .before .before .before .before .before .before .before .before in
+    let else = else1 (c .before) in
+    let start = entry (head else) in
     let pre = start .pre in
-    let s = c .before .before .before .before .before .before .before .before .before .loop in
-    let h = c .before .before .before .before .before .before .before .before .loop-test .taken in
+    let s = head else .loop in
+    let h = turn (else .before) .loop-test .taken in
     let k = s .inv .3 (pre .0) (pre .1) (pre .2) in
-    let met = c .before .before .before .before .before .before .row-shares .ensures (inRow (pre .0) (pre .1) (s .v)) (laid _ _ _ _ _ _ _ _ _ (pre .2) .chains (s .v) h (k .come .is-chosen h)) in (
+    let met = else .before .before .before .row-shares .ensures (inRow (pre .0) (pre .1) (s .v)) (laid _ _ _ _ _ _ _ _ _ (pre .2) .chains (s .v) h (k .come .is-chosen h)) in (
       pre .0,
       pre .1,
       _,
@@ -123,14 +148,15 @@ pass-lone-requires-2 c κs =
 
 loop-less : tie.Need-loop-less Inv-loop μ-loop
 loop-less c =
-    omega (arith, next-more _ _ _ _ _ _ _ _ _ (c .before .before .before .before .before .before .before .before .before .before .before .before .before .before .before .before .before .before .before .before .before .before .before .before .before .pre .2) _ (c .before .before .before .before .before .before .before .before .before .before .before .loop-test .taken) _ (c .before .before .before .before .index .ensures), c .before .before .pass-lone2 .ensures .1 .0 .0)
+    omega (arith, next-more _ _ _ _ _ _ _ _ _ (entry (head (else1 (after-index c))) .pre .2) _ (turn (else1 (after-index c) .before) .loop-test .taken) _ (after-index c .index .ensures), c .before .before .pass-lone2 .ensures .1 .0 .0)
 
 loop-again : tie.Need-loop-again Inv-loop μ-loop
 loop-again c =
-    let pre = c .before .before .before .before .before .before .before .before .before .before .before .before .before .before .before .before .before .before .before .before .before .before .before .before .before .pre in
-    let s = c .before .before .before .before .before .before .before .before .before .before .before .before .loop in
-    let h = c .before .before .before .before .before .before .before .before .before .before .before .loop-test .taken in
-    let met = c .before .before .before .before .before .before .before .before .before .row-shares .ensures in
+    let else = else1 (after-index c) in
+    let pre = entry (head else) .pre in
+    let s = head else .loop in
+    let h = turn (else .before) .loop-test .taken in
+    let met = else .before .before .before .row-shares .ensures in
     let passed = c .before .before .pass-lone2 .ensures in (
       search needs,
       passed .1 .1,
@@ -138,7 +164,7 @@ loop-again c =
       λ doc r held.
           let k = s .inv .3 doc r held in
           passed .0 doc r _ _ held
-          (shared-step _ _ _ _ _ _ _ _ _ _ k h _ _ (met (inRow doc r (s .v)) (laid _ _ _ _ _ _ _ _ _ held .chains (s .v) h (k .come .is-chosen h))) (c .before .before .before .before .before .before .if1 .left) (omega arith) _ (next-of _ _ _ _ _ _ _ _ _ held (s .v) h _ (c .before .before .before .before .index .ensures))),
+          (shared-step _ _ _ _ _ _ _ _ _ _ k h _ _ (met (inRow doc r (s .v)) (laid _ _ _ _ _ _ _ _ _ held .chains (s .v) h (k .come .is-chosen h))) (else .if1 .left) (omega arith) _ (next-of _ _ _ _ _ _ _ _ _ held (s .v) h _ (after-index c .index .ensures))),
     )
 
 same-length-2 : tie.Need-same-length-2 Inv-loop μ-loop

@@ -29,14 +29,18 @@ abbrev μ-loop : tie.MeasureT-loop
 loop-holds : tie.Need-loop-holds Inv-loop μ-loop
 loop-holds c = (omega arith, refl, λ doc r s ok flat lo hi. filled-none _ _)
 
+-- from the head of the loop back to the start
+abbrev entry : tie.At-loop Inv-loop μ-loop → tie.Start Inv-loop μ-loop
+entry c = c .before .before .before .before .before .before .before .before
+
 reach-of-requires : tie.Need-reach-of-requires Inv-loop μ-loop
-reach-of-requires c κs = let p = c .before .before .before .before .before .before .before .before .before .pre in (c .loop-test .taken, p)
+reach-of-requires c κs = let p = entry (c .before) .pre in (c .loop-test .taken, p)
 
 mul-out : tie.Need-mul-out Inv-loop μ-loop
 mul-out c = search needs
 
 array-write-out : tie.Need-array-write-out Inv-loop μ-loop
-array-write-out c = let p = c .before .before .before .before .before .before .before .before .before .before .pre in omega (arith, p .2 .vkind .size, p .3 .few)
+array-write-out c = let p = entry (c .before .before) .pre in omega (arith, p .2 .vkind .size, p .3 .few)
 
 add-f : tie.Need-add-f Inv-loop μ-loop
 add-f c = search needs
@@ -46,7 +50,7 @@ loop-less c = search needs
 
 loop-again : tie.Need-loop-again Inv-loop μ-loop
 loop-again c =
-    let p = c .before .before .before .before .before .before .before .before .before .before .pre in
+    let p = entry (c .before .before) .pre in
     let s = c .before .before .loop in (
       omega arith,
       simp length-set (s .inv .1),
@@ -55,7 +59,7 @@ loop-again c =
 
 returns : tie.Need-returns Inv-loop μ-loop
 returns c =
-    let s = c .before .before .before .before .before .before .before .before .before in
+    let s = entry (c .before) in
     λ doc r held ok flat lo hi.
     filled-reaches doc r _ _ (c .before .loop .inv .2 doc r held ok flat (toZ-ofZ (s .fits .low) ∙ lo) (toZ-ofZ (s .fits .high) ∙ hi)) (omega (arith, held .vkind .size)) (omega (arith, ok .few))
 

@@ -5,15 +5,27 @@ use Rattle.window.proofs.Parting.{answer, older, older-token, way, room
 use Rattle.window.proofs.uncounted_in.Statement.{statement}
 use Rattle.window.proofs.uncounted_in.Tie as tie
 
+-- from `slice-known3` back to the first arm of `if2`
+abbrev then2 : tie.After-slice-known3 → tie.Then2
+then2 c = c .before .before .before .before
+
+-- from `slice-known4` back to the other arm of `if2`
+abbrev else2 : tie.After-slice-known4 → tie.Else2
+else2 c = c .before .before .before .before
+
+-- from `slice-known2` back to the start
+abbrev entry : tie.After-slice-known2 → tie.Start
+entry c = c .before .before .before .before .before .before .before .before .before .before .before .before
+
 stepped-in-requires : tie.Need-stepped-in-requires
 stepped-in-requires c κs =
-    let p = c .before .before .before .before .before .before .before .before .before .before .before .before .before .pre .1 in
+    let p = entry (c .before) .pre .1 in
     let k = sym (p .7) ∙ c .if1 .taken in
     (rooms (p .6) k, way (p .6) k)
 
 returns : tie.Need-returns
 returns c =
-    let p = c .before .before .before .before .before .before .before .before .before .before .before .before .before .before .pre .1 in
+    let p = entry (c .before .before) .pre .1 in
     let k = c .before .if1 .taken in (
       λ doc q r w distinct low high l e from to few.
           let s = sym e ∙ k in
@@ -23,7 +35,7 @@ returns c =
 
 missing-in-requires : tie.Need-missing-in-requires
 missing-in-requires c κs =
-    let p = c .before .before .before .before .before .before .before .before .before .before .before .before .before .before .before .pre .1 in
+    let p = entry (c .before .before .before) .pre .1 in
     let s = p .6 .missing (sym (p .7) ∙ c .before .if2 .taken) in
     (p .0, p .2, p .1, s .0, s .1 .ready, p .8)
 
@@ -32,8 +44,8 @@ same-length c = search needs
 
 returns-2 : tie.Need-returns-2
 returns-2 c =
-    let p = c .before .before .before .before .before .before .before .before .before .before .before .before .before .before .before .before .before .before .pre .1 in
-    let k = c .before .before .before .before .if2 .taken in
+    let p = entry (then2 c .before .before) .pre .1 in
+    let k = then2 c .if2 .taken in
     let g = c .before .before .missing-in .ensures in (
       λ doc q r w distinct low high l e from to few. let s = l .missing (sym e ∙ k) in answer doc q r w (g .0 doc q r w (s .0) (s .1) (l .windowed) (sym e ∙ k) from to),
       (g .1, λ i. older-token _ (p .9 .low i)),
@@ -42,7 +54,7 @@ returns-2 c =
 shared-in-requires : tie.Need-shared-in-requires
 shared-in-requires c κs =
     let b = c .before in
-    let p = c .before .before .before .before .before .before .before .before .before .before .before .before .before .before .before .pre in
+    let p = entry (c .before .before .before) .pre in
     let s = p .1 .6 .sharing (early (p .1 .6) (p .1 .7) (b .if2 .left) (p .0) (b .before .if1 .left)) in
     (p .1 .0, p .1 .2, s .0, s .1, p .1 .6 .judgeable .few, p .1 .9)
 
@@ -51,8 +63,8 @@ same-length-2 c = search needs
 
 returns-3 : tie.Need-returns-3
 returns-3 c =
-    let b = c .before .before .before .before in
-    let p = c .before .before .before .before .before .before .before .before .before .before .before .before .before .before .before .before .before .before .pre in
+    let b = else2 c in
+    let p = entry (else2 c .before .before) .pre in
     let g = c .before .before .shared-in .ensures in (
       λ doc q r w distinct low high l e from to few.
           let s = l .sharing (early l e (b .if2 .left) (p .0) (b .before .if1 .left)) in

@@ -11,9 +11,21 @@ use Rattle.windows.proofs.setting_out.judge.Tie as tie
 slice-aggregate-mark-changes : tie.Need-slice-aggregate-mark-changes
 slice-aggregate-mark-changes c = search needs
 
+-- from `struct-known3` back to the call of `places-of`
+abbrev after-places-of : tie.After-struct-known3 → tie.After-places-of
+after-places-of c = c .before .before .before .before
+
+-- from `struct-known3` back to the call of `terms`
+abbrev after-terms : tie.After-struct-known3 → tie.After-terms
+after-terms c = after-places-of c .before .before .before
+
+-- from `days` back to the start
+abbrev entry : tie.After-days → tie.Start
+entry c = c .before .before .before .before .before .before .before .before .before .before
+
 mark-changes-requires : tie.Need-mark-changes-requires
 mark-changes-requires c κs =
-    let p = c .before .before .before .before .before .before .before .before .before .before .pre in
+    let p = entry c .pre in
     let s = p .2 .2 in
     markable (s .periods) (s .judgeable) (s .read .room) (s .room) (first-few _ (p .0))
 
@@ -34,25 +46,25 @@ slice-aggregate-walk-clear c = search needs
 
 walk-clear-requires : tie.Need-walk-clear-requires
 walk-clear-requires c κs =
-    let p = c .before .before .before .before .before .before .before .before .before .before .before .before .before .before .before .before .before .before .before .before .pre in
+    let p = entry (after-terms c .before .before .before) .pre in
     let s = p .2 .2 in
-    let days = each-day (c .before .before .before .before .before .before .before .before .before .mark-changes .ensures (p .2 .0) (p .2 .1) _ (s .periods) (s .read) refl (s .held-read) refl) in (
-      c .before .before .before .before .before .before .starts .ensures,
-      going _ (p .0) (c .before .before .before .before .places-of .ensures) refl (days .room),
-      (p .2 .0, p .2 .1, _, settled-laid _ s (p .0) (p .1) (c .before .before .before .before .before .before .before .terms .ensures), refl),
+    let days = each-day (after-terms c .before .before .mark-changes .ensures (p .2 .0) (p .2 .1) _ (s .periods) (s .read) refl (s .held-read) refl) in (
+      after-places-of c .before .before .starts .ensures,
+      going _ (p .0) (after-places-of c .places-of .ensures) refl (days .room),
+      (p .2 .0, p .2 .1, _, settled-laid _ s (p .0) (p .1) (after-terms c .terms .ensures), refl),
     )
 
 returns : tie.Need-returns
 returns c =
-    let p = c .before .before .before .before .before .before .before .before .before .before .before .before .before .before .before .before .before .before .before .before .before .pre in
-    let days = c .before .before .before .before .before .before .before .before .before .before .mark-changes .ensures in
+    let p = entry (after-terms (c .before) .before .before .before) .pre in
+    let days = after-terms (c .before) .before .before .mark-changes .ensures in
     λ doc q s.
     c .walk-clear .ensures doc q _
-    (settled-laid _ s (p .0) (p .1) (c .before .before .before .before .before .before .before .before .terms .ensures))
+    (settled-laid _ s (p .0) (p .1) (after-terms (c .before) .terms .ensures))
     refl
     (each-day (days doc q _ (s .periods) (s .read) refl (s .held-read) refl))
     (p .0)
-    (c .before .before .before .before .before .places-of .ensures)
+    (after-places-of (c .before) .places-of .ensures)
     refl
 
 pub judge-spec : {M : Type 1} → statement M

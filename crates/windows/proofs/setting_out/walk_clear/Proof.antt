@@ -10,9 +10,13 @@ slice-aggregate-walk c = search needs
 slice-aggregate-walk-2 : tie.Need-slice-aggregate-walk-2
 slice-aggregate-walk-2 c = search needs
 
+-- from `seen` back to the start
+abbrev entry : tie.After-seen → tie.Start
+entry c = c .before .before .before .before .before .before .before .before .before .before .before .before .before .before .before .before .before .before .before .before .before
+
 walk-requires : tie.Need-walk-requires
 walk-requires c κs =
-    let p = c .before .before .before .before .before .before .before .before .before .before .before .before .before .before .before .before .before .before .before .before .before .pre in
+    let p = entry c .pre in
     (p .0, p .1, lookable (p .2 .3) (p .2 .4))
 
 returns : tie.Need-returns
