@@ -8,7 +8,9 @@ use Rattle.meaning.specs.declared.Node.{Node}
 use Rattle.meaning.specs.Document.{ofNodes}
 use Rattle.meaning.proofs.Opened.{opened}
 use Rattle.meaning.proofs.Pinning.{Held}
-use Rattle.meaning.proofs.Writing.{item, bare, number, text, nodeBytes, rule, nodes, table, block, written}
+use Rattle.meaning.specs.Block.{nodeForm, ruleForm, blockOf}
+use Rattle.meaning.specs.Nodes.{nodeBytes}
+use Rattle.meaning.proofs.Writing.{item, bare, number, text, rule, nodes, table, written}
 
 -- a root with one version, over the whole century
 unfoldable pub lone : List Node
@@ -68,7 +70,7 @@ unfoldable pub fullBlock : List ℕ
 fullBlock = nodes (item 1 65535 1 ∷ bare 0 0 10 ∷ items 2 23)
 
 unfoldable pub lastBlock : List ℕ
-lastBlock = block 1 1 (nodeBytes (bare 2 3 4) ∷ [])
+lastBlock = blockOf nodeForm 1 (nodeBytes (bare 2 3 4) ∷ [])
 
 -- a key of one name, and two blocks of ten such rules and one
 unfoldable pub plain : List ℕ
@@ -78,7 +80,7 @@ unfoldable pub tenRules : List ℕ
 tenRules = table (replicate 10 plain)
 
 unfoldable pub lastRule : List ℕ
-lastRule = block 1 2 (rule 2 0 (1 ∷ []) 0 ∷ [])
+lastRule = blockOf ruleForm 1 (rule 2 0 (1 ∷ []) 0 ∷ [])
 
 -- numbers of both signs: 5 in record 3 and −6 in 5, of name 2; −6 in 7 and 5 in 9, of name 3
 unfoldable pub signs : List Node

@@ -8,7 +8,8 @@ use Rattle.meaning.specs.declared.Verdict.the-variants.{Refused as Unjud
 use Rattle.meaning.specs.declared.Listed.the-variants.{Stored, Refused as Unlisted}
 use Rattle.meaning.proofs.Asking.{onRule, onSlice, onChanges, told, stored}
 use Rattle.meaning.proofs.Opened.{opened}
-use Rattle.meaning.proofs.Writing.{pair, quad, put, item, bare, nodes, spoilt, inNode, written}
+use Rattle.meaning.specs.Bytes.{pair, quad}
+use Rattle.meaning.proofs.Writing.{put, item, bare, nodes, spoilt, inNode, written}
 use Rattle.meaning.proofs.Pinning.{Pin, pin, Right}
 use Rattle.meaning.proofs.Working.{by-pinning}
 use Rattle.meaning.proofs.PinnedImages.{little, deep, items, fullBlock, lastBlock}

@@ -10,7 +10,8 @@ use Rattle.meaning.specs.declared.Listed.the-variants.{Stored, Refused a
 use Rattle.meaning.specs.Document.{ofNodes}
 use Rattle.meaning.proofs.Asking.{onRule, onChanges, told, stored}
 use Rattle.meaning.proofs.Opened.{opened}
-use Rattle.meaning.proofs.Writing.{pair, put, inNode, rule, distinct, to, between, during, days, months, nodes, table, spoilt, written}
+use Rattle.meaning.specs.Bytes.{pair}
+use Rattle.meaning.proofs.Writing.{put, inNode, rule, distinct, to, between, during, days, months, nodes, table, spoilt, written}
 use Rattle.meaning.proofs.Pinning.{Pin, pin, Posed, pose, pinTo, Right}
 use Rattle.meaning.proofs.Working.{by-pinning, by-reading}
 use Rattle.meaning.proofs.PinnedImages.{lone, lone-held, little, plain, tenRules, lastRule}

@@ -1,33 +1,20 @@
--- Images written record by record, and spoilt byte by byte: what the pinned examples are given.
+-- Images of one block by the definitions that write them, rules written field by field, and images spoilt byte by byte: what the pinned examples are given.
 use mathlib.Core.List.{List, [], _∷_, _++_, map}
-use Prim.Native.Nat.{ℕ, _+_, _-_, _*_, _/_, _%_}
-use lib.IntN.{ℤ, pos, negsuc}
+use Prim.Native.Nat.{ℕ, _+_, _*_}
+use lib.IntN.{ℤ, pos}
 use lib.ListN.{length, take, drop, replicate}
 use Rattle.meaning.specs.declared.Node.{Node}
-use Rattle.meaning.specs.Block.{check}
+use Rattle.meaning.specs.Bytes.{pair, quad, bits}
+use Rattle.meaning.specs.Block.{nodeForm, ruleForm, check, joined, padded, sealed, blockOf}
+use Rattle.meaning.specs.Nodes.{nodeBytes}
 
--- a number as two bytes and as four, and a signed one
-abbrev pub pair : ℕ → List ℕ
-pair x = x % 256 ∷ x / 256 ∷ []
-
-abbrev pub quad : ℕ → List ℕ
-quad x = x % 256 ∷ x / 256 % 256 ∷ x / 65536 % 256 ∷ x / 16777216 ∷ []
-
-abbrev pub signedQuad : ℤ → List ℕ
-signedQuad (pos x) = quad x
-signedQuad (negsuc x) = quad (4294967295 - x)
+-- four bytes of a signed number
+abbrev signedQuad : ℤ → List ℕ
+signedQuad z = quad (bits z)
 
 unfoldable pub pairs : List ℕ → List ℕ
 pairs [] = []
 pairs (x ∷ xs) = pair x ++ pairs xs
-
-unfoldable pub joined : List (List ℕ) → List ℕ
-joined [] = []
-joined (s ∷ rest) = s ++ joined rest
-
--- zeros up to n bytes
-unfoldable pub padded : ℕ → List ℕ → List ℕ
-padded n s = s ++ replicate (n - length s) 0
 
 -- these bytes in place of those from k on
 unfoldable pub put : ℕ → List ℕ → List ℕ → List ℕ
@@ -50,12 +37,6 @@ number parent begin end value = version 1 parent begin end value
 
 abbrev pub text : ℕ → ℕ → ℕ → ℕ → Node
 text parent begin end code = version 2 parent begin end (pos code)
-
--- the 20 bytes of a node record
-unfoldable pub nodeBytes : Node → List ℕ
-nodeBytes n =
-    n .kind ∷ n .vkind ∷ pair (n .name) ++ pair (n .parent) ++ pair (n .begin) ++ pair (n .end)
-    ++ signedQuad (n .value) ++ quad (n .item) ++ pair (n .spare)
 
 -- the 50 bytes of a rule: kind, 0 sequenced or 1 non-sequenced, path, field; over the whole century, referring to no rule, with no bounds and no window
 unfoldable pub rule : ℕ → ℕ → List ℕ → ℕ → List ℕ
@@ -82,20 +63,12 @@ days span slide r = put 36 (pair span ++ 1 ∷ 0 ∷ pair slide) r
 unfoldable pub months : ℕ → ℕ → List ℕ → List ℕ
 months span slide r = put 36 (pair span ++ 2 ∷ 0 ∷ pair slide) r
 
--- 508 bytes and their check: that of the definitions, which the example bank's bytes pin (Examples.bank-written)
-unfoldable pub sealed : List ℕ → List ℕ
-sealed s = s ++ quad (check s)
-
--- a block: its number, its kind, its records
-unfoldable pub block : ℕ → ℕ → List (List ℕ) → List ℕ
-block b kind rs = sealed (padded 508 (quad b ++ pair (length rs) ++ kind ∷ 0 ∷ joined rs))
-
 -- an image of one block
 abbrev pub nodes : List Node → List ℕ
-nodes ns = block 0 1 (map nodeBytes ns)
+nodes ns = blockOf nodeForm 0 (map nodeBytes ns)
 
 abbrev pub table : List (List ℕ) → List ℕ
-table rs = block 0 2 rs
+table rs = blockOf ruleForm 0 rs
 
 -- a block with other bytes from k on, sealed anew; the same from byte k of node record i on
 unfoldable pub spoilt : ℕ → List ℕ → List ℕ → List ℕ
@@ -106,5 +79,5 @@ inNode i k bytes s = spoilt (8 + 20 * i + k) bytes s
 
 -- one name that unfolds every writer here
 unfoldable pub written : Unit {0}
-unfolding check pairs joined padded put nodeBytes rule distinct to between during days months sealed block spoilt
+unfolding check bits pairs joined padded put nodeBytes rule distinct to between during days months sealed blockOf spoilt
 written = tt

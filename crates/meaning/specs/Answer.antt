@@ -1,4 +1,4 @@
--- What the three calls answer and what a lent list then holds (MEANING 13, 14), refusals in their order.
+-- What the calls answer and what a lent list or image then holds (MEANING 13, 14, 17), refusals in their order.
 use Prim.Native.Nat.{ℕ}
 use mathlib.Core.Bool.{_&&_, cond}
 use mathlib.Core.List.{List, _++_}
@@ -11,9 +11,12 @@ use Rattle.meaning.specs.declared.Verdict.{Verdict}
 use Rattle.meaning.specs.declared.Verdict.the-variants.{Holds, Fails, Refused as Unjudged}
 use Rattle.meaning.specs.declared.Listed.{Listed}
 use Rattle.meaning.specs.declared.Listed.the-variants.{Stored, Refused as Unlisted}
+use Rattle.meaning.specs.declared.Output.{Output}
+use Rattle.meaning.specs.declared.Output.the-variants.{Written, Refused as Unwritten}
 use Rattle.meaning.specs.Order.{need, andThen}
 use Rattle.meaning.specs.Document.{Doc}
-use Rattle.meaning.specs.Nodes.{docOf, readNodes}
+use Rattle.meaning.specs.Nodes.{docOf, readNodes, imageOf}
+use Rattle.meaning.specs.Lent.{Lent, nodesLent, readLent}
 use Rattle.meaning.specs.Rules.{ruleAt, rulesOf, readRules, isSequenced}
 use Rattle.meaning.specs.Day.{slice, changeDays, onDays}
 use Rattle.meaning.specs.Window.{inWindows}
@@ -73,6 +76,26 @@ changesAnswer nodes rules k lent = storing (readChanges nodes rules k) (changesO
 unfoldable pub changesLent : List ℕ → List ℕ → ℕ → List ℕ → List ℕ
 changesLent nodes rules k lent = lentAfter (changesAnswer nodes rules k lent) (changesOf nodes rules k) lent
 
+-- the call `write_nodes`: the records' own refusal, then 12 for an image that is too short
+unfoldable pub readWrite : ℕ → Lent → List ℕ → Reading
+readWrite n c image = andThen (readLent n c) (need (leb (length (imageOf (nodesLent n c))) (length image)) 12 0)
+
+-- a refusal of the reading, else how many bytes were written
+abbrev pub outputAfter : Reading → ℕ → Output
+outputAfter Accepted bytes = Written bytes
+outputAfter (Refused number place) bytes = Unwritten number place
+
+unfoldable pub writeAnswer : ℕ → Lent → List ℕ → Output
+writeAnswer n c image = outputAfter (readWrite n c image) (length (imageOf (nodesLent n c)))
+
+-- what the lent image holds afterwards: the image of the records and the rest as it was, or all as it was
+abbrev pub imageAfter : Output → List ℕ → List ℕ → List ℕ
+imageAfter (Written bytes) written image = written ++ drop bytes image
+imageAfter (Unwritten number place) written image = image
+
+unfoldable pub writeImage : ℕ → Lent → List ℕ → List ℕ
+writeImage n c image = imageAfter (writeAnswer n c image) (imageOf (nodesLent n c)) image
+
 -- an answer in numbers (MEANING 12): 0 holds, 1 fails, 2 refused; what an answer does not carry is 0
 pub record Told : Type 0 where
   pub outcome : ℕ
@@ -94,3 +117,7 @@ tellListed (Unlisted x i) = record { outcome = 2; number = x; place = i; day = 0
 unfoldable pub tellReading : Reading → Told
 tellReading Accepted = record { outcome = 0; number = 0; place = 0; day = 0; offender = 0; count = 0 }
 tellReading (Refused x i) = record { outcome = 2; number = x; place = i; day = 0; offender = 0; count = 0 }
+
+unfoldable pub tellOutput : Output → Told
+tellOutput (Written n) = record { outcome = 0; number = 0; place = 0; day = 0; offender = 0; count = n }
+tellOutput (Unwritten x i) = record { outcome = 2; number = x; place = i; day = 0; offender = 0; count = 0 }

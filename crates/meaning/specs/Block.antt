@@ -1,12 +1,13 @@
--- Blocks of 512 bytes and the image they make up (MEANING 2): check, header, zeros, and refusals 1 to 4 or 21 to 24.
+-- Blocks of 512 bytes and the image they make up (MEANING 2): check, header, zeros, refusals 1 to 4 or 21 to 24, and the image that records are written to (MEANING 17).
 use Prim.Native.Nat.{ℕ, suc, _+_, _-_, _*_, _/_, _%_, _^_}
 use mathlib.Core.Bool.{Bool, true, _&&_, cond}
-use mathlib.Core.List.{List, [], _∷_}
+use mathlib.Core.List.{List, [], _∷_, _++_}
 use lib.Dec.{eqb, leb}
-use lib.ListN.{length, take, drop}
+use lib.ListN.{length, take, drop, replicate}
 use Rattle.meaning.specs.declared.Form.{Form}
 use Rattle.meaning.specs.declared.Reading.{Reading}
-use Rattle.meaning.specs.Bytes.{byte, two, four}
+use Rattle.meaning.specs.Walk.{listed}
+use Rattle.meaning.specs.Bytes.{byte, two, four, pair, quad}
 use Rattle.meaning.specs.Order.{need, andThen, Test}
 
 -- the two kinds of image
@@ -87,3 +88,32 @@ records form image = form .each * (blocks image - 1) + counted (blockAt image (b
 -- the bytes of record i of an image
 unfoldable pub recordOf : Form → List ℕ → ℕ → List ℕ
 recordOf form image i = take (form .size) (drop (recordAt form (i % form .each)) (blockAt image (i / form .each)))
+
+-- Writing: one stretch of bytes after the other
+unfoldable pub joined : List (List ℕ) → List ℕ
+joined [] = []
+joined (s ∷ rest) = s ++ joined rest
+
+-- zeros up to n bytes
+unfoldable pub padded : ℕ → List ℕ → List ℕ
+padded n s = s ++ replicate (n - length s) 0
+
+-- bytes, and their check after them
+unfoldable pub sealed : List ℕ → List ℕ
+sealed s = s ++ quad (check s)
+
+-- block b, with the bytes of its records
+unfoldable pub blockOf : Form → ℕ → List (List ℕ) → List ℕ
+blockOf form b rs = sealed (padded 508 (quad b ++ (pair (length rs) ++ (form .kind ∷ 0 ∷ joined rs))))
+
+-- how many blocks n records take
+unfoldable pub blocksFor : Form → ℕ → ℕ
+blocksFor form n = (n + (form .each - 1)) / form .each
+
+-- the records of block b: every block but the last is full
+unfoldable pub share : Form → ℕ → List (List ℕ) → List (List ℕ)
+share form b rs = take (form .each) (drop (form .each * b) rs)
+
+-- the blocks of these records, one after the other
+unfoldable pub blocksOf : Form → List (List ℕ) → List ℕ
+blocksOf form rs = joined (listed (λ b. blockOf form b (share form b rs)) 0 (blocksFor form (length rs)))

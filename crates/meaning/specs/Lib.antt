@@ -4,6 +4,7 @@ pub mod Order
 pub mod Block
 pub mod Document
 pub mod Nodes
+pub mod Lent
 pub mod Rules
 pub mod Select
 pub mod Day

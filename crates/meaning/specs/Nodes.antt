@@ -1,16 +1,16 @@
--- Node images (MEANING 3, 4): the record's table, the tests 4 to 10 on a document, and what comes of reading an image.
+-- Node images (MEANING 3, 4): the record's table, the tests 4 to 10 on a document, what comes of reading an image, and the image of records (MEANING 17).
 use Prim.Native.Nat.{ℕ, zero, suc, _+_}
 use mathlib.Core.Bool.{Bool, _&&_, _||_, not, cond}
-use mathlib.Core.List.{List, [], _∷_}
+use mathlib.Core.List.{List, [], _∷_, _++_, map}
 use lib.IntN.{pos}
 use lib.Signed.{leZ}
 use lib.Dec.{leb, ltb, eqb}
 use Rattle.meaning.specs.declared.Node.{Node}
 use Rattle.meaning.specs.declared.Reading.{Reading}
 use Rattle.meaning.specs.Walk.{any, listed}
-use Rattle.meaning.specs.Bytes.{byte, two, four, signed, eqZ}
+use Rattle.meaning.specs.Bytes.{byte, two, four, signed, eqZ, pair, quad, bits}
 use Rattle.meaning.specs.Order.{need, andThen, Test, inOrder}
-use Rattle.meaning.specs.Block.{nodeForm, imageTests, records, recordOf}
+use Rattle.meaning.specs.Block.{nodeForm, imageTests, records, recordOf, blocksOf}
 use Rattle.meaning.specs.Document.{Doc, ofNodes, node, isItem, isVersion, versionOf, above}
 
 -- the fields of a record's 20 bytes
@@ -24,6 +24,17 @@ nodesOf image = listed (λ i. nodeIn (recordOf nodeForm image i)) 0 (records nod
 
 unfoldable pub docOf : List ℕ → Doc
 docOf image = ofNodes (nodesOf image)
+
+-- the 20 bytes of a record
+unfoldable pub nodeBytes : Node → List ℕ
+nodeBytes n =
+    n .kind ∷ n .vkind
+    ∷ (pair (n .name) ++ (pair (n .parent) ++ (pair (n .begin) ++ (pair (n .end)
+    ++ (quad (bits (n .value)) ++ (quad (n .item) ++ pair (n .spare)))))))
+
+-- THE IMAGE of these records
+unfoldable pub imageOf : List Node → List ℕ
+imageOf ns = blocksOf nodeForm (map nodeBytes ns)
 
 -- a period lies within days 0 to 36,524
 abbrev pub isPeriod : ℕ → ℕ → Bool

@@ -25,6 +25,12 @@ pub enum Listed {
     Refused(usize, usize),
 }
 
+// The answer of a call that writes an image: how many bytes it wrote, or refused with a number and a place.
+pub enum Output {
+    Written(usize),
+    Refused(usize, usize),
+}
+
 // One kind of image: the block's kind byte, the bytes of a record, the records of a full block, the most blocks, and what is
 // added to the number of a refusal.
 pub struct Form {
