@@ -10,6 +10,7 @@ pub mod records; // records.rt: 4, 5, 6, 8, record by record
 pub mod placing; // placing.rt: 7, version by version
 pub mod clash; // clash.rt: 9, an item that clashes with a lower one
 pub mod root; // root.rt: 10, the versions of the root
+pub mod front; // front.rt: records in the first entries of longer columns
 
 // Everything that is asked of a document, in its order: 4, 5, 6, 8 record by record, then 7, then 9, then 10.
 // Cost: two passes over the records, the pairs of items that share a key, and one more pass.

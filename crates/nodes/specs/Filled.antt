@@ -4,7 +4,7 @@ use mathlib.Core.List.{List, _++_}
 use Prim.Native.Nat.{ℕ, _+_, _*_, _≤_}
 use lib.ListN.{drop}
 use Rattle.meaning.specs.Walk.{listed}
-use Rattle.meaning.specs.Block.{limit, blocks}
+use Rattle.meaning.specs.Block.{blocks}
 
 -- n entries by f, and the rest as it was
 unfoldable pub filled : {A : Type 0} → (ℕ → A) → ℕ → List A → List A
@@ -31,16 +31,3 @@ pub record Roomy (image : List ℕ) (n a b c d e f g h : ℕ) : Type 0 where
   pub end : n ≤ f
   pub value : n ≤ g
   pub item : n ≤ h
-
--- nine columns have at least n entries, and n is no more than a document can have
-pub record Front (n a b c d e f g h i : ℕ) : Type 0 where
-  pub few : n ≤ limit
-  pub kind : n ≤ a
-  pub vkind : n ≤ b
-  pub name : n ≤ c
-  pub parent : n ≤ d
-  pub begin : n ≤ e
-  pub end : n ≤ f
-  pub value : n ≤ g
-  pub item : n ≤ h
-  pub spare : n ≤ i

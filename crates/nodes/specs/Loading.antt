@@ -1,21 +1,16 @@
 -- What comes of unpacking a node image into lent columns: the answer, and what each column then holds.
-use mathlib.Core.Bool.{Bool, _&&_}
 use mathlib.Core.List.{List, _++_, map}
 use Prim.Native.Nat.{ℕ}
-use lib.Dec.{leb}
 use lib.ListN.{length, drop}
 use Rattle.meaning.specs.declared.Node.{Node}
 use Rattle.meaning.specs.declared.Reading.{Reading}
 use Rattle.meaning.specs.declared.Reading.the-variants.{Accepted, Refused}
 use Rattle.meaning.specs.Order.{need, andThen}
 use Rattle.meaning.specs.Nodes.{nodesOf, readNodes}
+use Rattle.meaning.specs.Lent.{roomy}
 use Rattle.meaning.specs.Answer.{Told}
 use Rattle.columns.specs.declared.Loaded.{Loaded}
 use Rattle.columns.specs.declared.Loaded.the-variants.{Nodes, Refused as Unloaded}
-
--- each of the eight columns has room for n entries
-abbrev pub roomy : ℕ → ℕ → ℕ → ℕ → ℕ → ℕ → ℕ → ℕ → ℕ → Bool
-roomy n a b c d e f g h = leb n a && leb n b && leb n c && leb n d && leb n e && leb n f && leb n g && leb n h
 
 -- how many records were unpacked, or the refusal
 abbrev pub loaded : Reading → ℕ → Loaded

@@ -4,15 +4,14 @@ use columns::LIMIT;
 use columns::Loaded;
 use meaning::Reading;
 ghost use mathlib.Core.Path.{_≡_};
-ghost use lib.ListN.{length, take};
-ghost use Rattle.meaning.specs.Document.{columns};
+ghost use lib.ListN.{length};
 ghost use Rattle.meaning.specs.declared.Node.{Node};
-ghost use Rattle.meaning.specs.Nodes.{accept, readNodes};
+ghost use Rattle.meaning.specs.Nodes.{readNodes};
 ghost use Rattle.meaning.specs.Bytes.{byte, two, four, signed};
 ghost use Rattle.meaning.specs.Block.{nodeForm, recordOf};
 ghost use Rattle.meaning.specs.Answer.{tellReading};
-ghost use Rattle.nodes.specs.Filled.{filled, Roomy, Front};
-ghost use Rattle.nodes.specs.Loading.{roomy, loaded, tellLoaded, loading, unpacked};
+ghost use Rattle.nodes.specs.Filled.{filled, Roomy};
+ghost use Rattle.nodes.specs.Loading.{loaded, tellLoaded, loading, unpacked};
 ghost use Rattle.nodes.specs.Unpacking.{Unpacks, Blank, together};
 
 pub mod fill; // fill.rt: one column, from the records of an image
@@ -50,52 +49,6 @@ fn unpack(
     fill::fill_quads(image, n, 14, item);
 }
 
-// Whether each of the eight columns has room for n entries.
-fn has_room(
-    n: usize,
-    a: usize,
-    b: usize,
-    c: usize,
-    d: usize,
-    e: usize,
-    f: usize,
-    g: usize,
-    h: usize,
-) -> bool
-    ensures { λ r. ⌜ r ≡ roomy n a b c d e f g h ⌝ }
-{
-    (n <= a) & (n <= b) & (n <= c) & (n <= d) & (n <= e) & (n <= f) & (n <= g) & (n <= h)
-}
-
-// The document in the first n entries of nine columns, tested.
-fn accept_front(
-    n: usize,
-    kind: &[u8],
-    vkind: &[u8],
-    name: &[u16],
-    parent: &[u16],
-    begin: &[u16],
-    end: &[u16],
-    value: &[i32],
-    item: &[u32],
-    spare: &[u16],
-) -> Reading
-    requires { ⌜ Front n (length (now kind)) (length (now vkind)) (length (now name)) (length (now parent)) (length (now begin)) (length (now end)) (length (now value)) (length (now item)) (length (now spare)) ⌝ }
-    ensures { λ r. ⌜ r ≡ accept (columns (take n (now (kind .entry))) (take n (now (vkind .entry))) (take n (now (name .entry))) (take n (now (parent .entry))) (take n (now (begin .entry))) (take n (now (end .entry))) (take n (now (value .entry))) (take n (now (item .entry))) (take n (now (spare .entry)))) ⌝ }
-{
-    document::accept_columns(
-        &kind[0..n],
-        &vkind[0..n],
-        &name[0..n],
-        &parent[0..n],
-        &begin[0..n],
-        &end[0..n],
-        &value[0..n],
-        &item[0..n],
-        &spare[0..n],
-    )
-}
-
 // The answer on n records that were read.
 pub fn told(read: Reading, n: usize) -> Loaded
     ensures { λ r. ⌜ r ≡ loaded read n ⌝ }
@@ -130,7 +83,18 @@ fn read_into(
     let n = block::count_records(image, block::NODES);
     unpack(image, n, kind, vkind, name, parent, begin, end, value, item);
     fill::fill_pairs(image, n, 18, spare);
-    let read = accept_front(n, kind, vkind, name, parent, begin, end, value, item, spare);
+    let read = document::front::accept_front(
+        n,
+        kind,
+        vkind,
+        name,
+        parent,
+        begin,
+        end,
+        value,
+        item,
+        spare,
+    );
     told(read, n)
 }
 
@@ -218,7 +182,7 @@ pub fn load(
         Reading::Accepted => {}
     }
     let n = block::count_records(image, block::NODES);
-    if !has_room(
+    if !document::front::has_room(
         n,
         kind.len(),
         vkind.len(),

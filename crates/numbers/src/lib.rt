@@ -1,11 +1,12 @@
-// Numbers in bytes, little-endian, and signed numbers: read, compared and subtracted; numbers of a column as indices. Every proof on signed values stands in this crate.
+// Numbers in bytes, little-endian, and signed numbers: read, written, compared and subtracted; numbers of a column as indices. Every proof on signed values stands in this crate.
 ghost use mathlib.Core.Path.{_≡_};
 ghost use mathlib.Core.Bool.{_&&_};
 ghost use Prim.Native.Nat.{_+_, _*_, _≤_, _<_};
 ghost use lib.IntN.{pos, _-ℤ_};
 ghost use lib.Signed.{leZ, mag};
 ghost use lib.ListN.{length};
-ghost use Rattle.meaning.specs.Bytes.{two, four, signed, eqZ};
+ghost use lib.Seq.{sets};
+ghost use Rattle.meaning.specs.Bytes.{two, four, signed, eqZ, pair, quad, bits};
 
 // A record's number or a day out of a column, as an index.
 pub fn index(x: u16) -> usize
@@ -60,6 +61,37 @@ pub fn signed_at(s: &[u8], at: usize) -> i32
     ensures { λ r. ⌜ r ≡ signed (four (now (s .entry)) at) ⌝ }
 {
     signed_of(four_at(s, at))
+}
+
+// The bits of a signed number, as an unsigned one.
+pub fn bits_of(z: i32) -> u32
+    ensures { λ r. ⌜ r ≡ bits z ⌝ }
+{
+    let m = magnitude(z);
+    if 0 <= z {
+        return m;
+    }
+    4294967295 - m
+}
+
+// A number put into two bytes.
+pub fn put_two(s: &mut [u8], at: usize, x: u16)
+    requires { ⌜ at + 2 ≤ length (now s) ⌝ }
+    ensures { λ r. ⌜ now (s .exit) ≡ sets (now (s .entry)) at (pair x) ⌝ }
+{
+    s[at] = (x % 256) as u8;
+    s[at + 1] = (x / 256) as u8;
+}
+
+// A number put into four bytes.
+pub fn put_four(s: &mut [u8], at: usize, x: u32)
+    requires { ⌜ at + 4 ≤ length (now s) ⌝ }
+    ensures { λ r. ⌜ now (s .exit) ≡ sets (now (s .entry)) at (quad x) ⌝ }
+{
+    s[at] = (x % 256) as u8;
+    s[at + 1] = (x / 256 % 256) as u8;
+    s[at + 2] = (x / 65536 % 256) as u8;
+    s[at + 3] = (x / 16777216) as u8;
 }
 
 pub fn same(a: i32, b: i32) -> bool
