@@ -1,2 +1,3 @@
 pub mod Signs
 pub mod Callers
+pub mod Stores

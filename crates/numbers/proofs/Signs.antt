@@ -11,7 +11,7 @@ use lib.Signed.{mag, leZ, nonNeg}
 use mir.Syntax.{Width, w32, w64}
 use mir.Val.{Fits, SFits, ofZ, toZ, hbits}
 use mir.Facts.{toZ-ofZ, toZ-pos, sfits-widen, fits-natAbs}
-use Rattle.meaning.specs.Bytes.{eqZ}
+use Rattle.meaning.specs.Bytes.{eqZ, bits}
 use Rattle.meaning.proofs.Basics.{tests-same}
 use Rattle.meaning.proofs.Says.{eqZ-passes}
 
@@ -79,3 +79,14 @@ held-up e h = rw e (record { sfits = h })
 
 pub cast-up : {x : ℤ} {n : ℕ} → x ≡ pos n → n < 2147483648 → T (nonNeg x) × Fits w32 (natAbs x)
 cast-up e h = rw e (tt, fits-natAbs {z = pos _} tt (held-up refl h))
+
+-- the bits of a number from 0 up, and of one below 0; x and y are the number, read back
+pub bits-up : {x y z : ℤ} {m : ℕ} → m ≡ mag x → x ≡ z → leZ (pos 0) y ≡ true → y ≡ z → m ≡ bits z
+unfolding bits
+bits-up {z = pos n} em ex t ey = em ∙ ap mag ex
+bits-up {z = negsuc n} em ex t ey = absurd (false≢true (rw ey at t))
+
+pub bits-down : {x y z : ℤ} {m : ℕ} → m ≡ mag x → x ≡ z → leZ (pos 0) y ≡ false → y ≡ z → 4294967295 - m ≡ bits z
+unfolding bits
+bits-down {z = pos n} em ex t ey = absurd (false≢true (sym (rw (ey, le-leb 0 n (omega arith)) at t)))
+bits-down {z = negsuc n} em ex t ey = ap (λ (k : ℕ). 4294967295 - k) (em ∙ ap mag ex)

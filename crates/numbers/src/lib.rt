@@ -68,7 +68,7 @@ pub fn bits_of(z: i32) -> u32
     ensures { λ r. ⌜ r ≡ bits z ⌝ }
 {
     let m = magnitude(z);
-    if 0 <= z {
+    if at_least_zero(z) {
         return m;
     }
     4294967295 - m
