@@ -10,3 +10,5 @@ pub mod Pairs
 pub mod Lowering
 pub mod Run
 pub mod Stages
+pub mod Fronts
+pub mod Lending

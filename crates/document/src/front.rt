@@ -3,7 +3,10 @@ use crate::accept_columns;
 use columns::LIMIT;
 use meaning::Reading;
 ghost use mathlib.Core.Path.{_≡_};
+ghost use mathlib.Core.Bool.{_&&_};
+ghost use lib.Dec.{leb};
 ghost use lib.ListN.{length, take};
+ghost use Rattle.meaning.specs.Block.{limit};
 ghost use Rattle.meaning.specs.Document.{columns};
 ghost use Rattle.meaning.specs.Nodes.{accept};
 ghost use Rattle.meaning.specs.Lent.{roomy, lent, readLent};
@@ -55,6 +58,13 @@ pub fn accept_front(
     )
 }
 
+// Whether a document can have n records.
+fn is_count(n: usize) -> bool
+    ensures { λ r. ⌜ r ≡ (leb 1 n && leb n limit) ⌝ }
+{
+    (1 <= n) & (n <= LIMIT)
+}
+
 // Whatever columns are lent: 1 for a count of none or too many, 12 for a short column, then the tests on the first n records, whose spare bytes are 0. Cost: the tests, and a column of zeros.
 pub fn accept_lent(
     n: usize,
@@ -69,7 +79,7 @@ pub fn accept_lent(
 ) -> Reading
     ensures { λ r. ⌜ r ≡ readLent n (lent (now (kind .entry)) (now (vkind .entry)) (now (name .entry)) (now (parent .entry)) (now (begin .entry)) (now (end .entry)) (now (value .entry)) (now (item .entry))) ⌝ }
 {
-    if (n < 1) | (LIMIT < n) {
+    if !is_count(n) {
         return Reading::Refused(1, 0);
     }
     if !has_room(

@@ -2,10 +2,12 @@
 use mathlib.Core.Path.{_≡_, refl, sym, _∙_, ap}
 use mathlib.Core.Logic.{_⊎_, ⊎-elim}
 use mathlib.Core.Bool.{Bool, true, false, false≢true}
+use mathlib.Core.List.{List, _∷_, map}
 use Prim.Native.Nat.{ℕ, zero, suc, _+_, _-_, _≤_, _<_}
 use native.Mathlib.Nat.{eq-or-lt-of-le}
 use native.Mathlib.Omega.{arith}
-use lib.ListN.{length, getD}
+use lib.ListN.{length, getD, take}
+use lib.Seq.{ext-getD, getD-take, length-take-le}
 use Rattle.meaning.specs.declared.Found.the-variants.{At, Nothing}
 use Rattle.meaning.specs.Walk.{any, count, first, pick, listed}
 use Rattle.meaning.proofs.Basics.{went, clear}
@@ -143,3 +145,17 @@ module _ {A : Type 0} (f : ℕ → A) where
   getD-listed i zero k x h = absurd (omega arith)
   getD-listed i (suc n) zero x h = let e : i ≡ i + 0 = omega arith in ap f e
   getD-listed i (suc n) (suc k) x h = let e : suc i + k ≡ i + suc k = omega arith in getD-listed (suc i) n k x (omega arith) ∙ ap f e
+
+-- what is made of each entry of a list of what f gives
+pub map-listed : {A B : Type 0} (g : A → B) (f : ℕ → A) (i n : ℕ) → map g (listed f i n) ≡ listed (λ k. g (f k)) i n
+unfolding listed
+map-listed g f i zero = refl
+map-listed g f i (suc n) = ap (λ l. g (f i) ∷ l) (map-listed g f (suc i) n)
+
+-- the first entries of a list, one by one
+pub listed-front : {A : Type 0} (d : A) (s : List A) (n : ℕ) → n ≤ length s → listed (λ i. getD s i d) 0 n ≡ take n s
+listed-front d s n h =
+    let same = length-listed (λ i. getD s i d) 0 n in
+    ext-getD d (listed (λ i. getD s i d) 0 n) (take n s) (same ∙ sym (length-take-le n s h))
+    (λ i l. let e : 0 + i ≡ i = omega arith in
+    getD-listed (λ k. getD s k d) 0 n i d (omega (arith, same)) ∙ ap (λ k. getD s k d) e ∙ sym (getD-take n s i d (omega (arith, same))))

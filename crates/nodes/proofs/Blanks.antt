@@ -14,7 +14,8 @@ use Rattle.meaning.specs.Block.{nodeForm, imageTests, records, recordOf, limit}
 use Rattle.meaning.specs.Document.{columns}
 use Rattle.meaning.specs.Nodes.{nodeIn, nodesOf, accept, readNodes}
 use Rattle.columns.specs.declared.Loaded.{Loaded}
-use Rattle.nodes.specs.Filled.{filled, Front}
+use Rattle.document.specs.Front.{Front}
+use Rattle.nodes.specs.Filled.{filled}
 use Rattle.nodes.specs.Loading.{loaded, tellLoaded}
 use Rattle.nodes.specs.Unpacking.{Unpacks, Blank, together, recordsAfter, recordsIn, blank, columnOf}
 use Rattle.nodes.proofs.Unpacked.{image-document}

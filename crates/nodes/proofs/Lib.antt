@@ -1,5 +1,4 @@
 pub mod Fills
-pub mod Fronts
 pub mod Unpacked
 pub mod Loads
 pub mod Unique

@@ -19,7 +19,8 @@ use Rattle.meaning.proofs.Says.{says}
 use Rattle.meaning.proofs.Walks.{length-listed}
 use Rattle.columns.specs.declared.Loaded.the-variants.{Nodes, Refused as Unloaded}
 use Rattle.nodes.specs.Filled.{filled, Roomy}
-use Rattle.nodes.specs.Loading.{roomy, tellLoaded, loading}
+use Rattle.meaning.specs.Lent.{roomy}
+use Rattle.nodes.specs.Loading.{tellLoaded, loading}
 use Rattle.nodes.proofs.Unpacked.{field-listed}
 
 module _ (image : List ℕ) {x : Reading} (ex : x ≡ inOrder (imageTests nodeForm image)) where

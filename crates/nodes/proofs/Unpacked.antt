@@ -11,13 +11,8 @@ use Rattle.meaning.specs.Bytes.{byte, two, four, signed}
 use Rattle.meaning.specs.Block.{nodeForm, records, recordOf}
 use Rattle.meaning.specs.Document.{columns, ofNodes}
 use Rattle.meaning.specs.Nodes.{nodeIn, nodesOf, docOf}
-use Rattle.meaning.proofs.Walks.{length-listed}
+use Rattle.meaning.proofs.Walks.{length-listed, map-listed}
 use Rattle.nodes.specs.Filled.{filled}
-
-map-listed : {A B : Type 0} (g : A → B) (f : ℕ → A) (i n : ℕ) → map g (listed f i n) ≡ listed (λ k. g (f k)) i n
-unfolding listed
-map-listed g f i zero = refl
-map-listed g f i (suc n) = ap (λ l. g (f i) ∷ l) (map-listed g f (suc i) n)
 
 module _ (image : List ℕ) (n : ℕ) (en : n ≡ records nodeForm image) where
   -- record i of the image

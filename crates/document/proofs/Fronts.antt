@@ -10,8 +10,8 @@ use lib.Seq.{length-take-le}
 use Rattle.meaning.specs.declared.Reading.{Reading}
 use Rattle.meaning.specs.Document.{columns}
 use Rattle.meaning.specs.Nodes.{accept}
 use Rattle.document.specs.Columns.{Even}
-use Rattle.nodes.specs.Filled.{Front}
+use Rattle.document.specs.Front.{Front}
 
 -- as long as the code cuts them
 cut : {A : Type 0} (n : ℕ) (l : List A) → n ≤ length l → length (take (n - 0) l) ≡ n

@@ -1,8 +1,8 @@
--- `nodes::accept_front` meets its contract: the parts lent are the first n entries.
-use Rattle.nodes.proofs.Fronts.{front-even, front-answer}
+-- `document::front::accept_front` meets its contract: the parts lent are the first n entries.
+use Rattle.document.proofs.Fronts.{front-even, front-answer}
 use borrow.Author.Needs.{needs}
-use Rattle.nodes.proofs.accept_front.Statement.{statement}
-use Rattle.nodes.proofs.accept_front.Tie as tie
+use Rattle.document.proofs.front.accept_front.Statement.{statement}
+use Rattle.document.proofs.front.accept_front.Tie as tie
 
 -- from `shared-slice-known8` back to the start
 abbrev begun : tie.After-shared-slice-known8 → tie.Start
