@@ -2,7 +2,7 @@
 use mathlib.Core.Path.{_≡_, refl, sym, _∙_, ap}
 use mathlib.Core.Logic.{_⊎_, ⊎-elim}
 use mathlib.Core.Bool.{Bool, true, false, false≢true}
-use mathlib.Core.List.{List, _∷_, map}
+use mathlib.Core.List.{List, [], _∷_, _++_, map}
 use Prim.Native.Nat.{ℕ, zero, suc, _+_, _-_, _≤_, _<_}
 use native.Mathlib.Nat.{eq-or-lt-of-le}
 use native.Mathlib.Omega.{arith}
@@ -145,6 +145,18 @@ module _ {A : Type 0} (f : ℕ → A) where
   getD-listed i zero k x h = absurd (omega arith)
   getD-listed i (suc n) zero x h = let e : i ≡ i + 0 = omega arith in ap f e
   getD-listed i (suc n) (suc k) x h = let e : suc i + k ≡ i + suc k = omega arith in getD-listed (suc i) n k x (omega arith) ∙ ap f e
+
+  -- one entry more at the far end
+  pub listed-more : (i n : ℕ) → listed f i (suc n) ≡ listed f i n ++ (f (i + n) ∷ [])
+  unfolding listed
+  listed-more i zero = let e : i + 0 ≡ i = omega arith in rw e
+  listed-more i (suc n) = let e : i + suc n ≡ suc i + n = omega arith in ap (λ l. f i ∷ l) (rw e (listed-more (suc i) n))
+
+-- two functions that agree on the numbers walked over list the same
+pub listed-same : {A : Type 0} (f g : ℕ → A) (i n : ℕ) → ((k : ℕ) → i ≤ k → k < i + n → f k ≡ g k) → listed f i n ≡ listed g i n
+unfolding listed
+listed-same f g i zero h = refl
+listed-same f g i (suc n) h = rw (h i (omega arith) (omega arith), listed-same f g (suc i) n (λ k a b. h k (omega arith) (omega arith)))
 
 -- what is made of each entry of a list of what f gives
 pub map-listed : {A B : Type 0} (g : A → B) (f : ℕ → A) (i n : ℕ) → map g (listed f i n) ≡ listed (λ k. g (f k)) i n

@@ -8,7 +8,7 @@ use lib.ListN.{length, getD, drop, set, length-append, length-drop}
 use lib.Seq.{drop-cons, set-at}
 use Rattle.meaning.specs.Walk.{listed}
 use Rattle.meaning.specs.Block.{nodeForm}
-use Rattle.meaning.proofs.Walks.{length-listed}
+use Rattle.meaning.proofs.Walks.{length-listed, listed-more}
 use Rattle.block.specs.Fair.{Part}
 use Rattle.nodes.specs.Filled.{filled, Grows}
 
@@ -17,12 +17,6 @@ pub placed : {image part : List ℕ} (b k : ℕ) → ((i : ℕ) → 512 * b ≡ 
 placed b k p h = p (25 * b + k) (omega arith) (omega arith)
 
 module _ {A : Type 0} (f : ℕ → A) where
-  -- one entry more
-  listed-more : (i n : ℕ) → listed f i (suc n) ≡ listed f i n ++ (f (i + n) ∷ [])
-  unfolding listed
-  listed-more i zero = let e : i + 0 ≡ i = omega arith in rw e
-  listed-more i (suc n) = let e : i + suc n ≡ suc i + n = omega arith in ap (λ l. f i ∷ l) (rw e (listed-more (suc i) n))
-
   pub filled-none : (old : List A) → old ≡ filled f 0 old
   unfolding filled listed
   filled-none old = refl
@@ -31,7 +25,7 @@ module _ {A : Type 0} (f : ℕ → A) where
   unfolding filled
   filled-more i old out x h e p =
       let z : 0 + i ≡ i = omega arith in
-      rw (add-one, e, p, drop-cons old i (f i) h, listed-more 0 i, z, append-assoc (listed f 0 i) (f i ∷ []) (drop (suc i) old))
+      rw (add-one, e, p, drop-cons old i (f i) h, listed-more f 0 i, z, append-assoc (listed f 0 i) (f i ∷ []) (drop (suc i) old))
       (set-at (listed f 0 i) (getD old i (f i)) (drop (suc i) old) (f i) i (length-listed f 0 i))
 
   -- as many, counted otherwise

@@ -1,12 +1,13 @@
 // Numbers in bytes, little-endian, and signed numbers: read, written, compared and subtracted; numbers of a column as indices. Every proof on signed values stands in this crate.
 ghost use mathlib.Core.Path.{_≡_};
 ghost use mathlib.Core.Bool.{_&&_};
+ghost use mathlib.Core.List.{[], _∷_};
 ghost use Prim.Native.Nat.{_+_, _*_, _≤_, _<_};
 ghost use lib.IntN.{pos, _-ℤ_};
 ghost use lib.Signed.{leZ, mag};
 ghost use lib.ListN.{length};
-ghost use lib.Seq.{sets};
 ghost use Rattle.meaning.specs.Bytes.{two, four, signed, eqZ, pair, quad, bits};
+ghost use Rattle.numbers.specs.Put.{Put};
 
 // A record's number or a day out of a column, as an index.
 pub fn index(x: u16) -> usize
@@ -74,10 +75,18 @@ pub fn bits_of(z: i32) -> u32
     4294967295 - m
 }
 
+// A number put into one byte.
+pub fn put_one(s: &mut [u8], at: usize, x: u8)
+    requires { ⌜ at + 1 ≤ length (now s) ⌝ }
+    ensures { λ r. ⌜ Put (now (s .entry)) at (x ∷ []) (now (s .exit)) ⌝ }
+{
+    s[at] = x;
+}
+
 // A number put into two bytes.
 pub fn put_two(s: &mut [u8], at: usize, x: u16)
     requires { ⌜ at + 2 ≤ length (now s) ⌝ }
-    ensures { λ r. ⌜ now (s .exit) ≡ sets (now (s .entry)) at (pair x) ⌝ }
+    ensures { λ r. ⌜ Put (now (s .entry)) at (pair x) (now (s .exit)) ⌝ }
 {
     s[at] = (x % 256) as u8;
     s[at + 1] = (x / 256) as u8;
@@ -86,7 +95,7 @@ pub fn put_two(s: &mut [u8], at: usize, x: u16)
 // A number put into four bytes.
 pub fn put_four(s: &mut [u8], at: usize, x: u32)
     requires { ⌜ at + 4 ≤ length (now s) ⌝ }
-    ensures { λ r. ⌜ now (s .exit) ≡ sets (now (s .entry)) at (quad x) ⌝ }
+    ensures { λ r. ⌜ Put (now (s .entry)) at (quad x) (now (s .exit)) ⌝ }
 {
     s[at] = (x % 256) as u8;
     s[at + 1] = (x / 256 % 256) as u8;

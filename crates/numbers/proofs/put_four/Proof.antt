@@ -46,7 +46,7 @@ same-length c = search needs
 returns : tie.Need-returns
 returns c =
     let x = c .args .x in
-    four-stores (c .args .s .now) (c .args .at) (x % 256) (x / 256 % 256) (x / 65536 % 256) (x / 16777216)
+    record { is = four-stores (c .args .s .now) (c .args .at) (x % 256) (x / 256 % 256) (x / 65536 % 256) (x / 16777216) }
 
 pub put-four-spec : {M : Type 1} → statement M
 put-four-spec =

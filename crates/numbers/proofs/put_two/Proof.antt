@@ -26,7 +26,7 @@ same-length : tie.Need-same-length
 same-length c = search needs
 
 returns : tie.Need-returns
-returns c = two-stores (c .args .s .now) (c .args .at) (c .args .x % 256) (c .args .x / 256)
+returns c = record { is = two-stores (c .args .s .now) (c .args .at) (c .args .x % 256) (c .args .x / 256) }
 
 pub put-two-spec : {M : Type 1} → statement M
 put-two-spec =
