@@ -8,3 +8,4 @@ pub mod Stretches
 pub mod Rewritten
 pub mod Puts
 pub mod Fillings
+pub mod Writes

@@ -1,6 +1,8 @@
 // Records written to an image: from lent columns to whole blocks, each filled from its own place onward, or refused and nothing stored.
 use meaning::Output;
 use meaning::Reading;
+ghost use Rattle.meaning.specs.Lent.{lent};
+ghost use Rattle.writer.specs.Promise.{WritePromise};
 
 pub mod filling; // filling.rt: blocks filled in a lent stretch of bytes
 
@@ -19,7 +21,9 @@ pub fn write_nodes(
     value: &[i32],
     item: &[u32],
     image: &mut [u8],
-) -> Output {
+) -> Output
+    ensures { λ r. ⌜ WritePromise count (lent (now (kind .entry)) (now (vkind .entry)) (now (name .entry)) (now (parent .entry)) (now (begin .entry)) (now (end .entry)) (now (value .entry)) (now (item .entry))) (now (image .entry)) r (now (image .exit)) ⌝ }
+{
     let read = document::front::accept_lent(
         count,
         kind,

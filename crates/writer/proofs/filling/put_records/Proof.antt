@@ -16,7 +16,7 @@ use Rattle.writer.proofs.filling.put_records.Statement.{statement}
 use Rattle.writer.proofs.filling.put_records.Tie as tie
 
 abbrev Inv-loop : tie.InvT-loop
-Inv-loop first m kind vkind name parent begin end value item part₀ k₀ part k = 
+Inv-loop first m kind vkind name parent begin end value item part₀ k₀ part k =
     (k ≤ m) × (length part ≡ length part₀) × Put part₀ 8 (joined (listed (bytesFrom (lent kind vkind name parent begin end value item) first) 0 k)) part
 
 abbrev μ-loop : tie.MeasureT-loop
