@@ -1,12 +1,15 @@
-// The public face of the checker: the slice of a day, the change days of a rule and the verdict on a rule, for every byte string.
+// The public face of the checker: the slice of a day, the change days of a rule and the verdict on a rule, for every byte string; and a node image written from records, for all columns.
 use columns::Columns;
 use columns::Loaded;
 use meaning::Listed;
+use meaning::Output;
 use meaning::Verdict;
 ghost use mathlib.Core.Path.{_≡_};
 ghost use mathlib.Core.List.{List};
 ghost use Prim.Native.Nat.{ℕ};
 ghost use Rattle.columns.specs.declared.Loaded.the-variants.{Nodes};
+ghost use Rattle.meaning.specs.Lent.{lent};
+ghost use Rattle.writer.specs.Promise.{WritePromise};
 ghost use Rattle.bank.specs.Opening.{Opens};
 ghost use Rattle.bank.specs.Promises.{VerdictPromise, SlicePromise, ChangesPromise};
 
@@ -76,4 +79,34 @@ pub fn verdict(nodes: &[u8], rules: &[u8], rule: usize) -> Verdict
         Loaded::Refused(number, place) => Verdict::Refused(number, place),
         Loaded::Nodes(n) => judge(columns, n, rules, rule),
     }
+}
+
+// The records in the first `count` entries of eight lent columns, written as a node image from the first byte of a lent stretch on: how many
+// bytes were written, and the bytes past them stay; or refused, and every byte stays. Cost: as `writer::write_nodes`, which it is.
+pub fn write_nodes(
+    count: usize,
+    kind: &[u8],
+    vkind: &[u8],
+    name: &[u16],
+    parent: &[u16],
+    begin: &[u16],
+    end: &[u16],
+    value: &[i32],
+    item: &[u32],
+    image: &mut [u8],
+) -> Output
+    ensures { λ r. ⌜ WritePromise count (lent (now (kind .entry)) (now (vkind .entry)) (now (name .entry)) (now (parent .entry)) (now (begin .entry)) (now (end .entry)) (now (value .entry)) (now (item .entry))) (now (image .entry)) r (now (image .exit)) ⌝ }
+{
+    writer::write_nodes(
+        count,
+        kind,
+        vkind,
+        name,
+        parent,
+        begin,
+        end,
+        value,
+        item,
+        image,
+    )
 }
