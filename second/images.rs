@@ -17,17 +17,17 @@ pub fn i32_at(s: &[u8], at: usize) -> i32 {
 
 /// What node images and rule images differ in: kind byte, record size, records a block, most blocks, what refusals add.
 pub struct Form {
-    kind: u8,
-    size: usize,
-    each: usize,
-    most: usize,
-    base: usize,
+    pub kind: u8,
+    pub size: usize,
+    pub each: usize,
+    pub most: usize,
+    pub base: usize,
 }
 
 pub const NODES: Form = Form { kind: 1, size: 20, each: 25, most: 40, base: 0 };
 pub const RULES: Form = Form { kind: 2, size: 50, each: 10, most: 10, base: 20 };
 
-fn check(bytes: &[u8]) -> u32 {
+pub fn check(bytes: &[u8]) -> u32 {
     let mut check: u32 = 5381;
     for byte in bytes {
         check = check.wrapping_mul(33).wrapping_add(*byte as u32);

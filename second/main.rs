@@ -1,7 +1,9 @@
-//! The checker told a second time, from the scope document alone: every day and every window by its words, with no cleverness.
+//! The checker and the writer told a second time, from the documents alone: every day, every window and every byte by their words, with no
+//! cleverness.
 //!
 //! usage: second FOLDER..          the report on the two images of each folder
 //!        second --pairs FILE      the answers for each pair of a file of many pairs
+//!        second --writes FILE     the answer for each case of a file of many cases of records, and the lent image after it
 use std::fs;
 use std::process::exit;
 
@@ -14,6 +16,8 @@ mod report;
 mod rules;
 mod slices;
 mod windows;
+mod writes;
+mod writing;
 
 use report::{report, Reading};
 
@@ -32,14 +36,18 @@ fn over_folder(folder: &str, months: &[usize]) -> String {
 fn main() {
     let words: Vec<String> = std::env::args().skip(1).collect();
     let months = months::month_starts();
-    if words.len() == 2 && words[0] == "--pairs" {
-        if let Err(error) = pairs::over_pairs(&words[1], &months) {
-            eprintln!("{}: {}", words[1], error);
-            exit(1);
+    let done = match words.first().map(String::as_str) {
+        Some("--pairs") if words.len() == 2 => pairs::over_pairs(&words[1], &months),
+        Some("--writes") if words.len() == 2 => writes::over_cases(&words[1]),
+        _ => {
+            for folder in &words {
+                print!("{}", over_folder(folder, &months));
+            }
+            Ok(())
         }
-        return;
-    }
-    for folder in &words {
-        print!("{}", over_folder(folder, &months));
+    };
+    if let Err(error) = done {
+        eprintln!("{}: {}", words[1], error);
+        exit(1);
     }
 }

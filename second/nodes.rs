@@ -1,4 +1,4 @@
-//! Nodes: the records of a node image as items and versions, and the refusals 4 to 10 that they can meet.
+//! Nodes: records as items and versions, of an image or by themselves, and the refusals 4 to 10 that they can meet.
 use crate::images::{i32_at, records, u16_at, u32_at, Refusal, NODES};
 
 pub struct Node {
@@ -92,7 +92,21 @@ fn depth(nodes: &[Node], i: usize) -> usize {
     }
 }
 
-/// Record by record: 4, 5, 6, 8.
+/// Record i, after good ones: 5, 6, 8.
+fn record_fits(nodes: &[Node], i: usize) -> Result<(), Refusal> {
+    if !fields_fit(&nodes[i]) {
+        return Err((5, i));
+    }
+    if !parent_fits(nodes, i) {
+        return Err((6, i));
+    }
+    if depth(nodes, i) > 8 {
+        return Err((8, i));
+    }
+    Ok(())
+}
+
+/// The records of an image, record by record: 4, 5, 6, 8.
 fn decoded(image: &[u8]) -> Result<Vec<Node>, Refusal> {
     let mut nodes: Vec<Node> = Vec::new();
     for (i, s) in records(image, &NODES)?.into_iter().enumerate() {
@@ -100,15 +114,7 @@ fn decoded(image: &[u8]) -> Result<Vec<Node>, Refusal> {
             return Err((4, i));
         }
         nodes.push(node(s));
-        if !fields_fit(&nodes[i]) {
-            return Err((5, i));
-        }
-        if !parent_fits(&nodes, i) {
-            return Err((6, i));
-        }
-        if depth(&nodes, i) > 8 {
-            return Err((8, i));
-        }
+        record_fits(&nodes, i)?;
     }
     Ok(nodes)
 }
@@ -146,9 +152,8 @@ fn clashes(bank: &Bank, i: usize) -> bool {
     })
 }
 
-/// The bank of a node image, or the first refusal of 1 to 10.
-pub fn read_nodes(image: &[u8]) -> Result<Bank, Refusal> {
-    let nodes = decoded(image)?;
+/// The bank of records that are good one by one, or 7, 9, 10.
+fn bank_of(nodes: Vec<Node>) -> Result<Bank, Refusal> {
     let mut under = vec![Vec::new(); nodes.len()];
     for i in 1..nodes.len() {
         under[nodes[i].parent as usize].push(i);
@@ -165,4 +170,17 @@ pub fn read_nodes(image: &[u8]) -> Result<Bank, Refusal> {
         return Err((10, 0));
     }
     Ok(bank)
+}
+
+/// The bank of a node image, or the first refusal of 1 to 10.
+pub fn read_nodes(image: &[u8]) -> Result<Bank, Refusal> {
+    bank_of(decoded(image)?)
+}
+
+/// The bank of records that come without an image, or the first refusal of 5 to 10.
+pub fn read_records(nodes: Vec<Node>) -> Result<Bank, Refusal> {
+    for i in 0..nodes.len() {
+        record_fits(&nodes, i)?;
+    }
+    bank_of(nodes)
 }

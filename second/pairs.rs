@@ -1,6 +1,9 @@
-//! The file of many pairs: each pair is read by itself, and its report, slices, change days and verdicts are printed.
+//! The file of many pairs: each pair is read by itself, and its report, slices, change days and verdicts are printed, and whether its node
+//! image comes back when it is written again.
 use crate::images::{u16_at, u32_at, Refusal};
+use crate::nodes::read_nodes;
 use crate::report::{numbers, report, Reading};
+use crate::writing::{write_nodes, Lent, FRESH};
 use std::fs::File;
 use std::io::{self, BufReader, BufWriter, Read, Write};
 
@@ -9,7 +12,7 @@ const NODES_MOST: u32 = 20481;
 const RULES_MOST: u32 = 5121;
 
 /// The next so many bytes, or none if the file ends before.
-fn taken(file: &mut dyn Read, length: usize) -> Option<Vec<u8>> {
+pub fn taken(file: &mut dyn Read, length: usize) -> Option<Vec<u8>> {
     let mut bytes = Vec::new();
     file.take(length as u64).read_to_end(&mut bytes).ok()?;
     if bytes.len() == length { Some(bytes) } else { None }
@@ -43,6 +46,22 @@ fn verdict_line(verdicts: &Result<Vec<String>, Refusal>, k: usize) -> String {
     }
 }
 
+/// The records of the node image written to a lent image of its length: the bytes of that after it, or a refusal.
+fn written_again(nodes: &[u8]) -> Result<(usize, Vec<u8>), Refusal> {
+    let bank = read_nodes(nodes)?;
+    let mut image = vec![FRESH; nodes.len()];
+    let size = write_nodes(bank.nodes.len(), &Lent::of(&bank.nodes), &mut image)?;
+    Ok((size, image))
+}
+
+fn again_line(nodes: &[u8]) -> String {
+    match written_again(nodes) {
+        Err((number, place)) => format!("again refused {} {}\n", number, place),
+        Ok((size, image)) if size == nodes.len() && image == nodes => String::from("again same\n"),
+        Ok(_) => String::from("again differs\n"),
+    }
+}
+
 fn answers(header: &[u8], nodes: &[u8], rules: &[u8], months: &[usize]) -> String {
     let room = u16_at(header, 16) as usize;
     let reading = Reading::new(nodes, rules, months);
@@ -59,7 +78,7 @@ fn answers(header: &[u8], nodes: &[u8], rules: &[u8], months: &[usize]) -> Strin
     for at in [12, 14] {
         out += &verdict_line(&verdicts, u16_at(header, at) as usize);
     }
-    out
+    out + &again_line(nodes)
 }
 
 /// Prints the answers for each pair of the file, until it ends.

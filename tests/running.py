@@ -1,5 +1,6 @@
-"""How programs are built and run over cases and files of pairs: used by the test scripts."""
+"""How programs are built and run over cases and files of many of them: used by the test scripts."""
 import glob
+import hashlib
 import os
 import platform
 import shutil
@@ -10,6 +11,19 @@ import tempfile
 ROOT = os.path.dirname(os.path.dirname(os.path.abspath(__file__)))
 IMAGES = ("nodes.blk", "rules.blk")
 MOST = (20481, 5121)  # bytes of an image in a pair: one more than the largest good one
+
+
+def tree_hash():
+    """The hash of the tree that is checked out; where git cannot tell it, one over the files of crates/."""
+    told = subprocess.run(["git", "rev-parse", "HEAD^{tree}"], cwd=ROOT, capture_output=True, text=True) if shutil.which("git") else None
+    if told and told.returncode == 0:
+        return told.stdout.strip()
+    total = hashlib.sha256()
+    for path in sorted(glob.glob(os.path.join(ROOT, "crates", "**"), recursive=True)):
+        if os.path.isfile(path):
+            with open(path, "rb") as file:
+                total.update(os.path.relpath(path, ROOT).encode() + b"\0" + hashlib.sha256(file.read()).digest())
+    return total.hexdigest()
 
 
 def command(program):
@@ -66,9 +80,31 @@ def packed(images, days, rules, room):
     return struct.pack("<IIHHHHHH", len(nodes), len(table), *days, *rules, room, 0) + nodes + table
 
 
-def by_pair(text):
-    """What was printed for each pair of a file: its number, a line feed, its lines."""
-    return ("\n" + text).split("\npair ")[1:]
+def pairs_of(data):
+    """The node image and the rule image of each pair of a file."""
+    at, pairs = 0, []
+    while at + 20 <= len(data):
+        nodes = at + 20 + int.from_bytes(data[at : at + 4], "little")
+        rules = nodes + int.from_bytes(data[at + 4 : at + 8], "little")
+        pairs.append((data[at + 20 : nodes], data[nodes:rules]))
+        at = rules
+    return pairs
+
+
+def by_word(word, text):
+    """What was printed for each pair, or case, of a file: its number, a line feed, its lines."""
+    return ("\n" + text).split(f"\n{word} ")[1:]
+
+
+def nodes_refused(report):
+    """The words in which a report refuses the node image; None if they are of the rules, or it refuses nothing."""
+    words = report[0].split(" ")
+    return report[0] if words[0] == "refused" and int(words[1]) < 20 else None
+
+
+def again(report):
+    """The line on a node image written again: refused as the report refuses it, else the same."""
+    return "again " + (nodes_refused(report) or "same")
 
 
 def over_cases(tops, files, check):

@@ -49,3 +49,19 @@ pub fn load(path: &[u8], buf: &mut [u8]) -> Got
     libc::close(fd);
     got
 }
+
+// Whether the next bytes of an open file fill the part.
+pub fn filled(fd: i32, part: &mut [u8]) -> bool {
+    let Got::Bytes(n) = fill_from(fd, part) else {
+        return false;
+    };
+    n == part.len()
+}
+
+// Whether the next n bytes of an open file came into the buffer's front; not if there is no room for them.
+pub fn filled_front(fd: i32, n: usize, buf: &mut [u8]) -> bool {
+    if buf.len() < n {
+        return false;
+    }
+    filled(fd, &mut buf[0..n])
+}

@@ -1,9 +1,11 @@
-// Reads pairs of images from `pairs.blk` of its folder and prints for each its report, two slices, the change days of two rules and the
-// verdicts on them. The test program of every public call, over many pairs in one process. A pair is a header of 20 bytes and the two
-// images (`tests/README.md`).
-use files::Got;
+// Reads pairs of images from `pairs.blk` of its folder and prints for each its report, two slices, the change days of two rules, the verdicts
+// on them, and whether the node image comes back when its records are written again. The test program of every public call, over many pairs
+// in one process. A pair is a header of 20 bytes and the two images (`tests/README.md`).
+use columns::Columns;
+use columns::Loaded;
 use libc::STDOUT_FILENO;
 use meaning::Listed;
+use meaning::Output;
 ghost use Prim.Native.Nat.{_≤_};
 
 // The largest good images, and one byte more, so that a longer one is refused by its length.
@@ -67,6 +69,13 @@ fn put_entries(line: &mut [u8], at: usize, list: &[u16], n: usize) -> usize {
     to
 }
 
+// The words of a refusal, its number and its place.
+fn put_refused(line: &mut [u8], at: usize, number: usize, place: usize) -> usize {
+    let told = spelling::put(line, at, b" refused");
+    let first = spelling::put_next(line, told, number);
+    spelling::put_next(line, first, place)
+}
+
 // The line of a list: the word, what was asked, and what a list call answered and stored.
 fn write_list(word: &[u8], asked: usize, listed: Listed, list: &[u16]) {
     let mut line = [0u8; LINE];
@@ -79,9 +88,7 @@ fn write_list(word: &[u8], asked: usize, listed: Listed, list: &[u16]) {
             write_line(&mut line, end);
         }
         Listed::Refused(number, place) => {
-            let told = spelling::put(&mut line, at, b" refused");
-            let first = spelling::put_next(&mut line, told, number);
-            let end = spelling::put_next(&mut line, first, place);
+            let end = put_refused(&mut line, at, number, place);
             write_line(&mut line, end);
         }
     }
@@ -128,6 +135,90 @@ fn write_verdict(nodes: &[u8], rules: &[u8], rule: usize) {
     write_line(&mut line, end);
 }
 
+// Whether two stretches of bytes are the same.
+fn same(a: &[u8], b: &[u8]) -> bool {
+    if a.len() != b.len() {
+        return false;
+    }
+    let mut i = 0;
+    while i < a.len() {
+        if a[i] != b[i] {
+            return false;
+        }
+        i += 1;
+    }
+    true
+}
+
+// The first n records of columns, written to a lent image.
+fn written<'a>(
+    n: usize,
+    kind: &'a [u8],
+    vkind: &'a [u8],
+    name: &'a [u16],
+    parent: &'a [u16],
+    begin: &'a [u16],
+    end: &'a [u16],
+    value: &'a [i32],
+    item: &'a [u32],
+    image: &mut [u8],
+) -> Output {
+    writer::write_nodes(n, kind, vkind, name, parent, begin, end, value, item, image)
+}
+
+// The records of an opened image written to a lent one; or what it was refused with.
+fn written_again(columns: Columns, image: &mut [u8]) -> Output {
+    let loaded = columns.loaded;
+    match loaded {
+        Loaded::Refused(number, place) => Output::Refused(number, place),
+        Loaded::Nodes(n) => written(
+            n,
+            &columns.kind,
+            &columns.vkind,
+            &columns.name,
+            &columns.parent,
+            &columns.begin,
+            &columns.end,
+            &columns.value,
+            &columns.item,
+            image,
+        ),
+    }
+}
+
+// Whether a node image came back, in a lent image of its length.
+fn write_again(nodes: &[u8], image: &mut [u8]) {
+    let mut line = [0u8; LINE];
+    let at = spelling::put(&mut line, 0, b"again");
+    let output = written_again(bank::opening::open_nodes(nodes), image);
+    match output {
+        Output::Refused(number, place) => {
+            let end = put_refused(&mut line, at, number, place);
+            write_line(&mut line, end);
+        }
+        Output::Written(size) => {
+            if (size == nodes.len()) & same(nodes, image) {
+                let end = spelling::put(&mut line, at, b" same");
+                write_line(&mut line, end);
+            } else {
+                let end = spelling::put(&mut line, at, b" differs");
+                write_line(&mut line, end);
+            }
+        }
+    }
+}
+
+// The same in an image that no writer has touched.
+fn write_again_in(nodes: &[u8]) {
+    let mut image = [165u8; NODES_ROOM];
+    let room = nodes.len();
+    if room < NODES_ROOM {
+        write_again(nodes, &mut image[0..room]);
+    } else {
+        write_again(nodes, &mut image);
+    }
+}
+
 // All lines of one pair.
 fn write_pair(number: usize, head: &[u8; 20], nodes: &[u8], rules: &[u8]) {
     let mut line = [0u8; LINE];
@@ -144,38 +235,23 @@ fn write_pair(number: usize, head: &[u8; 20], nodes: &[u8], rules: &[u8]) {
     write_changes_in(nodes, rules, second, room);
     write_verdict(nodes, rules, first);
     write_verdict(nodes, rules, second);
-}
-
-// Whether the next bytes of the file fill the part.
-fn filled(fd: i32, part: &mut [u8]) -> bool {
-    let Got::Bytes(n) = files::fill_from(fd, part) else {
-        return false;
-    };
-    n == part.len()
-}
-
-// Whether the next n bytes of the file came into the buffer's front; not if there is no room for them.
-fn filled_front(fd: i32, n: usize, buf: &mut [u8]) -> bool {
-    if buf.len() < n {
-        return false;
-    }
-    filled(fd, &mut buf[0..n])
+    write_again_in(nodes);
 }
 
 // Whether there was one more pair in the file, of images no longer than they may be; its lines are written.
 fn one_pair(fd: i32, number: usize) -> bool {
     let mut head = [0u8; 20];
-    if !filled(fd, &mut head) {
+    if !files::filled(fd, &mut head) {
         return false;
     }
     let n = long(&head, 0);
     let m = long(&head, 4);
     let mut nodes = [0u8; NODES_ROOM];
-    if !filled_front(fd, n, &mut nodes) {
+    if !files::filled_front(fd, n, &mut nodes) {
         return false;
     }
     let mut rules = [0u8; RULES_ROOM];
-    if !filled_front(fd, m, &mut rules) {
+    if !files::filled_front(fd, m, &mut rules) {
         return false;
     }
     write_pair(
