@@ -1,0 +1,2 @@
+-- The laws of reading a text.
+pub mod Theorems

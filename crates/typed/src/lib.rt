@@ -1,0 +1,199 @@
+// Records typed as a text, read into columns: how many there are on the first line, then a line of eight numbers for each.
+use columns::LIMIT;
+use meaning::Node;
+use scan::Scan;
+use scan::SignedScan;
+
+pub mod scan; // scan.rt: numbers in decimal
+
+// What comes of a text: how many records it says it has, or the number of the first line that is not in the form, from 1.
+pub enum Typed {
+    Records(usize),
+    Bad(usize),
+}
+
+// What came of a text, and columns with room for the largest document: their first entries hold the records, and all others are 0.
+pub struct TypedRecords {
+    pub answer: Typed,
+    pub kind: [u8; LIMIT],
+    pub vkind: [u8; LIMIT],
+    pub name: [u16; LIMIT],
+    pub parent: [u16; LIMIT],
+    pub begin: [u16; LIMIT],
+    pub end: [u16; LIMIT],
+    pub value: [i32; LIMIT],
+    pub item: [u32; LIMIT],
+}
+
+// A record, and the place after its line; or that the line is not in the form.
+pub enum Line {
+    Record(Node, usize),
+    Bad,
+}
+
+// The line of a record, from a place on. One look at each byte.
+pub fn line_at(text: &[u8], at: usize) -> Line {
+    let Scan::Number(kind, a) = scan::number_at(text, at, 255, 32) else {
+        return Line::Bad;
+    };
+    let Scan::Number(vkind, b) = scan::number_at(text, a, 255, 32) else {
+        return Line::Bad;
+    };
+    let Scan::Number(name, c) = scan::number_at(text, b, 65535, 32) else {
+        return Line::Bad;
+    };
+    let Scan::Number(parent, d) = scan::number_at(text, c, 65535, 32) else {
+        return Line::Bad;
+    };
+    let Scan::Number(begin, e) = scan::number_at(text, d, 65535, 32) else {
+        return Line::Bad;
+    };
+    let Scan::Number(end, f) = scan::number_at(text, e, 65535, 32) else {
+        return Line::Bad;
+    };
+    let SignedScan::Value(value, g) = scan::value_at(text, f, 32) else {
+        return Line::Bad;
+    };
+    let Scan::Number(item, h) = scan::number_at(text, g, 4294967295, 10) else {
+        return Line::Bad;
+    };
+    Line::Record(
+        Node {
+            kind: kind as u8,
+            vkind: vkind as u8,
+            name: name as u16,
+            parent: parent as u16,
+            begin: begin as u16,
+            end: end as u16,
+            value,
+            item: item as u32,
+            spare: 0,
+        },
+        h,
+    )
+}
+
+// The lines of `count` records from a place on, the first of them line 2, each record's fields in the columns. One look at each byte.
+fn read_lines(
+    text: &[u8],
+    from: usize,
+    count: usize,
+    kind: &mut [u8],
+    vkind: &mut [u8],
+    name: &mut [u16],
+    parent: &mut [u16],
+    begin: &mut [u16],
+    end: &mut [u16],
+    value: &mut [i32],
+    item: &mut [u32],
+) -> Typed {
+    let mut at = from;
+    let mut i = 0;
+    while i < count {
+        let Line::Record(node, next) = line_at(text, at) else {
+            return Typed::Bad(i + 2);
+        };
+        kind[i] = node.kind;
+        vkind[i] = node.vkind;
+        name[i] = node.name;
+        parent[i] = node.parent;
+        begin[i] = node.begin;
+        end[i] = node.end;
+        let v = node.value;
+        value[i] = v;
+        item[i] = node.item;
+        at = next;
+        i += 1;
+    }
+    if at == text.len() {
+        return Typed::Records(count);
+    }
+    Typed::Bad(count + 2)
+}
+
+// A text read into columns of zeros with room for the largest document.
+fn read_into(
+    text: &[u8],
+    kind: &mut [u8],
+    vkind: &mut [u8],
+    name: &mut [u16],
+    parent: &mut [u16],
+    begin: &mut [u16],
+    end: &mut [u16],
+    value: &mut [i32],
+    item: &mut [u32],
+) -> Typed {
+    let Scan::Number(count, from) = scan::number_at(text, 0, 4294967296, 10) else {
+        return Typed::Bad(1);
+    };
+    if (count < 1) | (LIMIT < count) {
+        return Typed::Records(count);
+    }
+    read_lines(
+        text,
+        from,
+        count,
+        kind,
+        vkind,
+        name,
+        parent,
+        begin,
+        end,
+        value,
+        item,
+    )
+}
+
+// No record, beside an answer.
+fn nothing(answer: Typed) -> TypedRecords {
+    TypedRecords {
+        answer,
+        kind: [0u8; LIMIT],
+        vkind: [0u8; LIMIT],
+        name: [0u16; LIMIT],
+        parent: [0u16; LIMIT],
+        begin: [0u16; LIMIT],
+        end: [0u16; LIMIT],
+        value: [0i32; LIMIT],
+        item: [0u32; LIMIT],
+    }
+}
+
+// A text read into columns of its own, for every byte string. Every entry is determined: its field of each record, and 0 past them; all are 0
+// where the text is not in the form, and where the count is 0 or too high, when the lines after the first are not looked at. Cost: one look
+// at each byte.
+pub fn read_text(text: &[u8]) -> TypedRecords {
+    let mut kind = [0u8; LIMIT];
+    let mut vkind = [0u8; LIMIT];
+    let mut name = [0u16; LIMIT];
+    let mut parent = [0u16; LIMIT];
+    let mut begin = [0u16; LIMIT];
+    let mut end = [0u16; LIMIT];
+    let mut value = [0i32; LIMIT];
+    let mut item = [0u32; LIMIT];
+    let answer = read_into(
+        text,
+        &mut kind,
+        &mut vkind,
+        &mut name,
+        &mut parent,
+        &mut begin,
+        &mut end,
+        &mut value,
+        &mut item,
+    );
+    let Typed::Records(_) = answer else {
+        return nothing(answer);
+    };
+    TypedRecords {
+        answer,
+        kind,
+        vkind,
+        name,
+        parent,
+        begin,
+        end,
+        value,
+        item,
+    }
+}
