@@ -1,2 +1,4 @@
 -- The laws of reading a text.
+pub mod Numerals
+pub mod Scans
 pub mod Theorems
