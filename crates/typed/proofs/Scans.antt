@@ -7,7 +7,8 @@ use Prim.Native.Nat.{ℕ, suc, _+_, _-_, _≤_, _<_}
 use native.Mathlib.Omega.{arith}
 use borrow.Author.Tests.{ltb-true, leb-true, lt-ltb, le-ltb, eq-eqb, ne-eqb}
 use lib.Dec.{leb, ltb, eqb}
-use lib.IntN.{ℤ}
+use lib.IntN.{ℤ, pos, negsuc}
+use lib.Signed.{mag}
 use lib.ListN.{length, drop}
 use Rattle.meaning.specs.Bytes.{byte, signed}
 use Rattle.meaning.proofs.Basics.{went, and-l, and-r}
@@ -96,3 +97,18 @@ module _ (text : List ℕ) (at stop : ℕ) where
     pub value-no-down : numberAt text (at + 1) 2147483648 stop ≡ Bad → Unsigned ≡ valueAt text at stop
     unfolding valueAt
     value-no-down e = rw (minus, e)
+
+  -- a value that was found is an i32
+  pub value-fits : {z : ℤ} {n : ℕ} → valueAt text at stop ≡ Value z n → mag z < 2147483648
+  unfolding valueAt
+  value-fits {z} {n} e = ⊎-elim (λ t. below _ refl (rw t at e)) (λ t. above _ refl (rw t at e)) (went (stands text at 45))
+    where
+      above : (s : Scan) → numberAt text at 2147483647 stop ≡ s → upward s ≡ Value z n → mag z < 2147483648
+      above (Number m k) f g = let same : pos m ≡ z = cc in rw (← same) (omega (arith, number-most text at 2147483647 stop f))
+      above Bad f g = let wrong : _≡_ {A = ℕ} 0 1 = cc in absurd (omega arith)
+      negative : (m k : ℕ) → m ≤ 2147483648 → (t : Bool) → cond t Unsigned (Value (negsuc (m - 1)) k) ≡ Value z n → mag z < 2147483648
+      negative m k most true g = let wrong : _≡_ {A = ℕ} 0 1 = cc in absurd (omega arith)
+      negative m k most false g = let same : negsuc (m - 1) ≡ z = cc in rw (← same) (omega arith)
+      below : (s : Scan) → numberAt text (at + 1) 2147483648 stop ≡ s → downward s ≡ Value z n → mag z < 2147483648
+      below (Number m k) f g = negative m k (number-most text (at + 1) 2147483648 stop f) (eqb m 0) g
+      below Bad f g = let wrong : _≡_ {A = ℕ} 0 1 = cc in absurd (omega arith)

@@ -1,4 +1,6 @@
 // Records typed as a text, read into columns: how many there are on the first line, then a line of eight numbers for each.
+ghost use mathlib.Core.Path.{_≡_};
+ghost use Rattle.typed.specs.Listing.{lineAt};
 use columns::LIMIT;
 use meaning::Node;
 use scan::Scan;
@@ -32,7 +34,9 @@ pub enum Line {
 }
 
 // The line of a record, from a place on. One look at each byte.
-pub fn line_at(text: &[u8], at: usize) -> Line {
+pub fn line_at(text: &[u8], at: usize) -> Line
+    ensures { λ r. ⌜ r ≡ lineAt (now (text .entry)) at ⌝ }
+{
     let Scan::Number(kind, a) = scan::number_at(text, at, 255, 32) else {
         return Line::Bad;
     };
