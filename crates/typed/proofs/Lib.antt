@@ -1,4 +1,5 @@
 -- The laws of reading a text.
 pub mod Numerals
 pub mod Scans
+pub mod Filling
 pub mod Theorems

@@ -1,6 +1,10 @@
 // Records typed as a text, read into columns: how many there are on the first line, then a line of eight numbers for each.
 ghost use mathlib.Core.Path.{_≡_};
-ghost use Rattle.typed.specs.Listing.{lineAt};
+ghost use Prim.Native.Nat.{_+_, _≤_};
+ghost use Rattle.meaning.specs.Block.{limit};
+ghost use Rattle.meaning.specs.Lent.{lent};
+ghost use Rattle.typed.specs.Listing.{lineAt, linesAt, told};
+ghost use Rattle.typed.specs.Entered.{Room, LinesRead};
 use columns::LIMIT;
 use meaning::Node;
 use scan::Scan;
@@ -77,6 +81,17 @@ pub fn line_at(text: &[u8], at: usize) -> Line
     )
 }
 
+// The answer after the last of `count` records: nothing else stands there.
+fn after_last(text: &[u8], at: usize, count: usize) -> Typed
+    requires { ⌜ count ≤ limit ⌝ }
+    ensures { λ r. ⌜ r ≡ told count (linesAt (now (text .entry)) at (count + 2) 0) .answer ⌝ }
+{
+    if at == text.len() {
+        return Typed::Records(count);
+    }
+    Typed::Bad(count + 2)
+}
+
 // The lines of `count` records from a place on, the first of them line 2, each record's fields in the columns. One look at each byte.
 fn read_lines(
     text: &[u8],
@@ -90,7 +105,10 @@ fn read_lines(
     end: &mut [u16],
     value: &mut [i32],
     item: &mut [u32],
-) -> Typed {
+) -> Typed
+    requires { ⌜ (count ≤ limit) × Room count (lent (now kind) (now vkind) (now name) (now parent) (now begin) (now end) (now value) (now item)) ⌝ }
+    ensures { λ r. ⌜ LinesRead (now (text .entry)) from count (lent (now (kind .entry)) (now (vkind .entry)) (now (name .entry)) (now (parent .entry)) (now (begin .entry)) (now (end .entry)) (now (value .entry)) (now (item .entry))) r (lent (now (kind .exit)) (now (vkind .exit)) (now (name .exit)) (now (parent .exit)) (now (begin .exit)) (now (end .exit)) (now (value .exit)) (now (item .exit))) ⌝ }
+{
     let mut at = from;
     let mut i = 0;
     while i < count {
@@ -109,10 +127,7 @@ fn read_lines(
         at = next;
         i += 1;
     }
-    if at == text.len() {
-        return Typed::Records(count);
-    }
-    Typed::Bad(count + 2)
+    after_last(text, at, count)
 }
 
 // A text read into columns of zeros with room for the largest document.
