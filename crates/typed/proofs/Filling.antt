@@ -95,6 +95,20 @@ module _ {A : Type 0} (field : Node → A) where
       rw (e, p, long, many, map-more ns node, drop-cons old i (field node) room, append-assoc (map field ns) (field node ∷ []) (drop (suc i) old))
       (set-at (map field ns) (getD old i (field node)) (drop (suc i) old) (field node) i (length-map ns field ∙ many))
 
+-- no record is entered
+pub entered-nothing : (old : Lent) → Entered [] old old
+entered-nothing old =
+    record {
+      kind = entered-none (λ (m : Node). m .kind) (old .kind);
+      vkind = entered-none (λ (m : Node). m .vkind) (old .vkind);
+      name = entered-none (λ (m : Node). m .name) (old .name);
+      parent = entered-none (λ (m : Node). m .parent) (old .parent);
+      begin = entered-none (λ (m : Node). m .begin) (old .begin);
+      end = entered-none (λ (m : Node). m .end) (old .end);
+      value = entered-none (λ (m : Node). m .value) (old .value);
+      item = entered-none (λ (m : Node). m .item) (old .item);
+    }
+
 -- eight columns are as long as they were
 pub record Sized (old new : Lent) : Type 0 where
   pub kind : length (new .kind) ≡ length (old .kind)
@@ -123,16 +137,7 @@ filling-none text from n old =
       listed = [];
       many = refl;
       rest = let e : n - 0 ≡ n = omega arith in rw e (front-none (linesAt text from 2 n));
-      columns = record {
-        kind = entered-none (λ (m : Node). m .kind) (old .kind);
-        vkind = entered-none (λ (m : Node). m .vkind) (old .vkind);
-        name = entered-none (λ (m : Node). m .name) (old .name);
-        parent = entered-none (λ (m : Node). m .parent) (old .parent);
-        begin = entered-none (λ (m : Node). m .begin) (old .begin);
-        end = entered-none (λ (m : Node). m .end) (old .end);
-        value = entered-none (λ (m : Node). m .value) (old .value);
-        item = entered-none (λ (m : Node). m .item) (old .item);
-      };
+      columns = entered-nothing old;
     }
 
 module _ {text : List ℕ} {from n : ℕ} {old new : Lent} {at i : ℕ} (s : Filling text from n old new at i) where

@@ -2,4 +2,5 @@
 pub mod Numerals
 pub mod Scans
 pub mod Filling
+pub mod Texts
 pub mod Theorems

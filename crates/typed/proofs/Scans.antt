@@ -62,9 +62,9 @@ module _ (text : List ℕ) (at most stop : ℕ) where
       let test = stands text (d .next) stop && (plain && fits) in
       ⊎-elim
       (λ t. let same : Number (d .value) (d .next + 1) ≡ Number v n = rw t at e in
-            let u : d .value ≡ v = cc in
-            let f : d .value ≤ most = leb-true (d .value) most (and-r plain fits (and-r (stands text (d .next) stop) (plain && fits) t)) in
-            omega arith)
+      let u : d .value ≡ v = cc in
+      let f : d .value ≤ most = leb-true (d .value) most (and-r plain fits (and-r (stands text (d .next) stop) (plain && fits) t)) in
+      omega arith)
       (λ t. let wrong : Bad ≡ Number v n = rw t at e in let z : _≡_ {A = ℕ} 0 1 = cc in absurd (omega arith))
       (went test)
 
@@ -106,9 +106,11 @@ module _ (text : List ℕ) (at stop : ℕ) where
       above : (s : Scan) → numberAt text at 2147483647 stop ≡ s → upward s ≡ Value z n → mag z < 2147483648
       above (Number m k) f g = let same : pos m ≡ z = cc in rw (← same) (omega (arith, number-most text at 2147483647 stop f))
       above Bad f g = let wrong : _≡_ {A = ℕ} 0 1 = cc in absurd (omega arith)
+
       negative : (m k : ℕ) → m ≤ 2147483648 → (t : Bool) → cond t Unsigned (Value (negsuc (m - 1)) k) ≡ Value z n → mag z < 2147483648
       negative m k most true g = let wrong : _≡_ {A = ℕ} 0 1 = cc in absurd (omega arith)
       negative m k most false g = let same : negsuc (m - 1) ≡ z = cc in rw (← same) (omega arith)
+
       below : (s : Scan) → numberAt text (at + 1) 2147483648 stop ≡ s → downward s ≡ Value z n → mag z < 2147483648
       below (Number m k) f g = negative m k (number-most text (at + 1) 2147483648 stop f) (eqb m 0) g
       below Bad f g = let wrong : _≡_ {A = ℕ} 0 1 = cc in absurd (omega arith)

@@ -18,7 +18,7 @@ pub two-records : textOf (word "2\n1 0 1 65535 0 0 0 1\n2 1 0 0 100 500 -2150 42
     ≡ record {
       answer = Records 2;
       listed = record { kind = 1; vkind = 0; name = 1; parent = 65535; begin = 0; end = 0; value = pos 0; item = 1; spare = 0 }
-      ∷ record { kind = 2; vkind = 1; name = 0; parent = 0; begin = 100; end = 500; value = negsuc 2149; item = 4294967295; spare = 0 } ∷ [];
+          ∷ record { kind = 2; vkind = 1; name = 0; parent = 0; begin = 100; end = 500; value = negsuc 2149; item = 4294967295; spare = 0 } ∷ [];
     }
 unfolding word digits digitsAt stands isPlain numberAt valueAt lineAt linesAt textOf
 two-records = refl

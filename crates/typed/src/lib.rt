@@ -4,7 +4,7 @@ ghost use Prim.Native.Nat.{_+_, _≤_};
 ghost use Rattle.meaning.specs.Block.{limit};
 ghost use Rattle.meaning.specs.Lent.{lent};
 ghost use Rattle.typed.specs.Listing.{lineAt, linesAt, told};
-ghost use Rattle.typed.specs.Entered.{Room, LinesRead};
+ghost use Rattle.typed.specs.Entered.{Room, LinesRead, TextRead, blank, columnsOf, Reads};
 use columns::LIMIT;
 use meaning::Node;
 use scan::Scan;
@@ -130,7 +130,7 @@ fn read_lines(
     after_last(text, at, count)
 }
 
-// A text read into columns of zeros with room for the largest document.
+// A text read into columns with room for the largest document.
 fn read_into(
     text: &[u8],
     kind: &mut [u8],
@@ -141,11 +141,14 @@ fn read_into(
     end: &mut [u16],
     value: &mut [i32],
     item: &mut [u32],
-) -> Typed {
+) -> Typed
+    requires { ⌜ Room limit (lent (now kind) (now vkind) (now name) (now parent) (now begin) (now end) (now value) (now item)) ⌝ }
+    ensures { λ r. ⌜ TextRead (now (text .entry)) (lent (now (kind .entry)) (now (vkind .entry)) (now (name .entry)) (now (parent .entry)) (now (begin .entry)) (now (end .entry)) (now (value .entry)) (now (item .entry))) r (lent (now (kind .exit)) (now (vkind .exit)) (now (name .exit)) (now (parent .exit)) (now (begin .exit)) (now (end .exit)) (now (value .exit)) (now (item .exit))) ⌝ }
+{
     let Scan::Number(count, from) = scan::number_at(text, 0, 4294967296, 10) else {
         return Typed::Bad(1);
     };
-    if (count < 1) | (LIMIT < count) {
+    if !((1 <= count) & (count <= LIMIT)) {
         return Typed::Records(count);
     }
     read_lines(
@@ -164,7 +167,9 @@ fn read_into(
 }
 
 // No record, beside an answer.
-fn nothing(answer: Typed) -> TypedRecords {
+fn nothing(answer: Typed) -> TypedRecords
+    ensures { λ r. ⌜ (r .answer ≡ answer) × (columnsOf r ≡ blank) ⌝ }
+{
     TypedRecords {
         answer,
         kind: [0u8; LIMIT],
@@ -181,7 +186,9 @@ fn nothing(answer: Typed) -> TypedRecords {
 // A text read into columns of its own, for every byte string. Every entry is determined: its field of each record, and 0 past them; all are 0
 // where the text is not in the form, and where the count is 0 or too high, when the lines after the first are not looked at. Cost: one look
 // at each byte.
-pub fn read_text(text: &[u8]) -> TypedRecords {
+pub fn read_text(text: &[u8]) -> TypedRecords
+    ensures { λ r. ⌜ Reads (now (text .entry)) r ⌝ }
+{
     let mut kind = [0u8; LIMIT];
     let mut vkind = [0u8; LIMIT];
     let mut name = [0u16; LIMIT];
