@@ -3,7 +3,6 @@ use mathlib.Core.Path.{_≡_, refl, sym, ap, _∙_}
 use mathlib.Core.Bool.{Bool, true, false, cond}
 use mathlib.Core.List.{List, [], _∷_, _++_, append-assoc, append-nil, map}
 use Prim.Native.Nat.{ℕ, suc, _+_, _-_, _≤_, _<_}
-use native.Mathlib.Numerals.{add-one}
 use native.Mathlib.Omega.{arith}
 use lib.IntN.{ℤ, pos}
 use lib.Signed.{mag}
@@ -19,7 +18,7 @@ use Rattle.typed.specs.declared.scan.SignedScan.the-variants as S
 use Rattle.typed.specs.declared.Line.{Line}
 use Rattle.typed.specs.declared.Line.the-variants as L
 use Rattle.typed.specs.declared.Typed.{Typed}
-use Rattle.typed.specs.declared.Typed.the-variants.{Records, Bad}
+use Rattle.typed.specs.declared.Typed.the-variants.{Bad}
 use Rattle.typed.specs.Numeral.{numberAt, valueAt}
 use Rattle.typed.specs.Listing.{onNumber, onValue, lineAt, Lines, records, bad, before, onLine, linesAt, told}
 use Rattle.typed.specs.Entered.{entered, Entered, Room, LinesRead}
@@ -29,6 +28,11 @@ use Rattle.typed.proofs.Scans.{value-fits}
 abbrev valueOf : Line → ℤ
 valueOf (L.Record node next) = node .value
 valueOf L.Bad = pos 0
+
+-- its spare bytes
+abbrev spareOf : Line → ℕ
+spareOf (L.Record node next) = node .spare
+spareOf L.Bad = 0
 
 -- a line in the form has each of its numbers
 module _ {node : Node} {next : ℕ} {P : Type 0} where
@@ -40,10 +44,14 @@ module _ {node : Node} {next : ℕ} {P : Type 0} where
   took-value (S.Value z k) g e = g z k refl e
   took-value S.Bad g e = let wrong : _≡_ {A = ℕ} 0 1 = cc in absurd (omega arith)
 
--- its value is an i32
-pub line-fits : (text : List ℕ) (at : ℕ) {node : Node} {next : ℕ} → lineAt text at ≡ L.Record node next → mag (node .value) < 2147483648
+-- its value is an i32, and its spare bytes are 0
+pub record Sound (node : Node) : Type 0 where
+  pub fits : mag (node .value) < 2147483648
+  pub spare : node .spare ≡ 0
+
+pub line-sound : (text : List ℕ) (at : ℕ) {node : Node} {next : ℕ} → lineAt text at ≡ L.Record node next → Sound node
 unfolding lineAt
-line-fits text at =
+line-sound text at =
     took (numberAt text at 255 32) (λ _ a.
     took (numberAt text a 255 32) (λ _ b.
     took (numberAt text b 65535 32) (λ _ c.
@@ -52,7 +60,8 @@ line-fits text at =
     took (numberAt text e 65535 32) (λ _ f.
     took-value (valueAt text f 32) (λ z g v.
     took (numberAt text g 4294967295 10) (λ _ h q.
-    let same : z ≡ _ = ap valueOf q in rw same at (value-fits text f 32 v)))))))))
+    let same : z ≡ _ = ap valueOf q in
+    record { fits = rw same at (value-fits text f 32 v); spare = sym (ap spareOf q) }))))))))
 
 -- records before those of the lines that are left
 abbrev pub front : List Node → Lines → Lines

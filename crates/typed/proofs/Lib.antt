@@ -3,4 +3,6 @@ pub mod Numerals
 pub mod Scans
 pub mod Filling
 pub mod Texts
+pub mod Lents
+pub mod Writes
 pub mod Theorems

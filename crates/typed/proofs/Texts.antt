@@ -5,7 +5,6 @@ use mathlib.Core.List.{List, []}
 use Prim.Native.Nat.{ℕ, _≤_}
 use native.Mathlib.Omega.{arith}
 use lib.Dec.{leb}
-use Rattle.meaning.specs.declared.Node.{Node}
 use Rattle.meaning.specs.Block.{limit}
 use Rattle.meaning.specs.Lent.{Lent}
 use Rattle.typed.specs.declared.scan.Scan.{Scan}

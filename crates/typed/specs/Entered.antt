@@ -10,7 +10,7 @@ use Rattle.meaning.specs.Lent.{Lent, lent}
 use Rattle.typed.specs.declared.Typed.{Typed}
 use Rattle.typed.specs.declared.Typed.the-variants.{Records}
 use Rattle.typed.specs.declared.TypedRecords.{TypedRecords}
-use Rattle.typed.specs.Listing.{Lines, records, Text, linesAt, told, textOf}
+use Rattle.typed.specs.Listing.{records, linesAt, told, textOf}
 
 -- one field of every record from the front on, and the rest as it was
 unfoldable pub entered : {A : Type 0} → (Node → A) → List Node → List A → List A

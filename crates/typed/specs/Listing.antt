@@ -30,15 +30,15 @@ onValue S.Bad rest = L.Bad
 -- the line of a record from a place on, and the place after it
 unfoldable pub lineAt : List ℕ → ℕ → Line
 lineAt text at =
-    onNumber (numberAt text at 255 32) (λ kind a.
-    onNumber (numberAt text a 255 32) (λ vkind b.
-    onNumber (numberAt text b 65535 32) (λ name c.
-    onNumber (numberAt text c 65535 32) (λ parent d.
-    onNumber (numberAt text d 65535 32) (λ begin e.
-    onNumber (numberAt text e 65535 32) (λ end f.
-    onValue (valueAt text f 32) (λ value g.
-    onNumber (numberAt text g 4294967295 10) (λ item h.
-    L.Record (record { kind = kind; vkind = vkind; name = name; parent = parent; begin = begin; end = end; value = value; item = item; spare = 0 }) h))))))))
+    onNumber (numberAt text at 255 32) (λ kind afterKind.
+    onNumber (numberAt text afterKind 255 32) (λ vkind afterVkind.
+    onNumber (numberAt text afterVkind 65535 32) (λ name afterName.
+    onNumber (numberAt text afterName 65535 32) (λ parent afterParent.
+    onNumber (numberAt text afterParent 65535 32) (λ begin afterBegin.
+    onNumber (numberAt text afterBegin 65535 32) (λ end afterEnd.
+    onValue (valueAt text afterEnd 32) (λ value afterValue.
+    onNumber (numberAt text afterValue 4294967295 10) (λ item next.
+    L.Record (record { kind = kind; vkind = vkind; name = name; parent = parent; begin = begin; end = end; value = value; item = item; spare = 0 }) next))))))))
 
 -- what comes of lines: their records, or the number of the first that is not in the form
 pub data Lines : Type 0 where

@@ -7,8 +7,13 @@ ghost use Rattle.typed.specs.Listing.{lineAt, linesAt, told};
 ghost use Rattle.typed.specs.Entered.{Room, LinesRead, TextRead, blank, columnsOf, Reads};
 use columns::LIMIT;
 use meaning::Node;
+use scan::LINE_FEED;
+use scan::SPACE;
 use scan::Scan;
 use scan::SignedScan;
+use scan::TOP;
+use scan::number_at;
+use scan::value_at;
 
 pub mod scan; // scan.rt: numbers in decimal
 
@@ -37,32 +42,32 @@ pub enum Line {
     Bad,
 }
 
-// The line of a record, from a place on. One look at each byte.
-pub fn line_at(text: &[u8], at: usize) -> Line
+// The line of a record, from a place on. At most four looks at each byte.
+fn line_at(text: &[u8], at: usize) -> Line
     ensures { λ r. ⌜ r ≡ lineAt (now (text .entry)) at ⌝ }
 {
-    let Scan::Number(kind, a) = scan::number_at(text, at, 255, 32) else {
+    let Scan::Number(kind, after_kind) = number_at(text, at, 255, SPACE) else {
         return Line::Bad;
     };
-    let Scan::Number(vkind, b) = scan::number_at(text, a, 255, 32) else {
+    let Scan::Number(vkind, after_vkind) = number_at(text, after_kind, 255, SPACE) else {
         return Line::Bad;
     };
-    let Scan::Number(name, c) = scan::number_at(text, b, 65535, 32) else {
+    let Scan::Number(name, after_name) = number_at(text, after_vkind, 65535, SPACE) else {
         return Line::Bad;
     };
-    let Scan::Number(parent, d) = scan::number_at(text, c, 65535, 32) else {
+    let Scan::Number(parent, after_parent) = number_at(text, after_name, 65535, SPACE) else {
         return Line::Bad;
     };
-    let Scan::Number(begin, e) = scan::number_at(text, d, 65535, 32) else {
+    let Scan::Number(begin, after_begin) = number_at(text, after_parent, 65535, SPACE) else {
         return Line::Bad;
     };
-    let Scan::Number(end, f) = scan::number_at(text, e, 65535, 32) else {
+    let Scan::Number(end, after_end) = number_at(text, after_begin, 65535, SPACE) else {
         return Line::Bad;
     };
-    let SignedScan::Value(value, g) = scan::value_at(text, f, 32) else {
+    let SignedScan::Value(value, after_value) = value_at(text, after_end, SPACE) else {
         return Line::Bad;
     };
-    let Scan::Number(item, h) = scan::number_at(text, g, 4294967295, 10) else {
+    let Scan::Number(item, next) = number_at(text, after_value, 4294967295, LINE_FEED) else {
         return Line::Bad;
     };
     Line::Record(
@@ -77,7 +82,7 @@ pub fn line_at(text: &[u8], at: usize) -> Line
             item: item as u32,
             spare: 0,
         },
-        h,
+        next,
     )
 }
 
@@ -92,7 +97,7 @@ fn after_last(text: &[u8], at: usize, count: usize) -> Typed
     Typed::Bad(count + 2)
 }
 
-// The lines of `count` records from a place on, the first of them line 2, each record's fields in the columns. One look at each byte.
+// The lines of `count` records from a place on, the first of them line 2, each record's fields in the columns.
 fn read_lines(
     text: &[u8],
     from: usize,
@@ -145,7 +150,7 @@ fn read_into(
     requires { ⌜ Room limit (lent (now kind) (now vkind) (now name) (now parent) (now begin) (now end) (now value) (now item)) ⌝ }
     ensures { λ r. ⌜ TextRead (now (text .entry)) (lent (now (kind .entry)) (now (vkind .entry)) (now (name .entry)) (now (parent .entry)) (now (begin .entry)) (now (end .entry)) (now (value .entry)) (now (item .entry))) r (lent (now (kind .exit)) (now (vkind .exit)) (now (name .exit)) (now (parent .exit)) (now (begin .exit)) (now (end .exit)) (now (value .exit)) (now (item .exit))) ⌝ }
 {
-    let Scan::Number(count, from) = scan::number_at(text, 0, 4294967296, 10) else {
+    let Scan::Number(count, from) = number_at(text, 0, TOP, LINE_FEED) else {
         return Typed::Bad(1);
     };
     if !((1 <= count) & (count <= LIMIT)) {
@@ -184,8 +189,8 @@ fn nothing(answer: Typed) -> TypedRecords
 }
 
 // A text read into columns of its own, for every byte string. Every entry is determined: its field of each record, and 0 past them; all are 0
-// where the text is not in the form, and where the count is 0 or too high, when the lines after the first are not looked at. Cost: one look
-// at each byte.
+// where the text is not in the form, and where the count is 0 or too high, when the lines after the first are not looked at. Cost: at most
+// four looks at each byte.
 pub fn read_text(text: &[u8]) -> TypedRecords
     ensures { λ r. ⌜ Reads (now (text .entry)) r ⌝ }
 {

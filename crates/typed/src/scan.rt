@@ -23,7 +23,7 @@ pub enum SignedScan {
 }
 
 // Above every number that a column holds.
-const TOP: usize = 4294967296;
+pub const TOP: usize = 4294967296;
 
 pub const SPACE: u8 = 32;
 
@@ -33,6 +33,7 @@ const MINUS: u8 = 45;
 
 const ZERO: u8 = 48;
 
+// The codes of 0 to 9.
 fn is_digit(x: u8) -> bool
     ensures { λ r. ⌜ r ≡ isDigit x ⌝ }
 {

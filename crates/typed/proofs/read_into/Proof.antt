@@ -1,6 +1,5 @@
 -- `typed::read_into` meets its contract: the first line is a count or not, and the lines after it are read where it is one of records.
-use mathlib.Core.Path.{_≡_, sym, _∙_}
-use native.Mathlib.Omega.{arith}
+use mathlib.Core.Path.{sym, _∙_}
 use borrow.Author.Tests.{leb-true, not-true, not-false}
 use lib.Dec.{leb}
 use Rattle.meaning.specs.Block.{limit}
@@ -9,10 +8,6 @@ use Rattle.typed.proofs.Texts.{room-less, text-bad, text-count, text-li
 use borrow.Author.Needs.{needs}
 use Rattle.typed.proofs.read_into.Statement.{statement}
 use Rattle.typed.proofs.read_into.Tie as tie
-use Rattle.typed.proofs.read_into.Reads as reads
-use Rattle.typed.proofs.read_into.Lts as lts
-use Rattle.typed.proofs.read_lines.Reads as read-lines-reads
-use Rattle.typed.proofs.scan.number_at.Reads as number-at-reads
 
 number-at-requires : tie.Need-number-at-requires
 number-at-requires c κs = search needs

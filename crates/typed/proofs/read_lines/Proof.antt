@@ -1,18 +1,13 @@
 -- `typed::read_lines` meets its contract. The invariant: the records of the lines that were read stand in the columns, and what is left is read from here.
 use Prim.Native.Nat.{_-_}
-use mathlib.Core.Path.{_≡_, sym, _∙_}
-use native.Mathlib.Omega.{arith}
+use mathlib.Core.Path.{sym, _∙_}
 use borrow.Author.Needs.{needs}
 use mir.Syntax.{w32}
 use Rattle.numbers.proofs.Signs.{given}
 use Rattle.meaning.specs.Lent.{lent}
-use Rattle.typed.proofs.Filling.{line-fits, Filling, filling-none, filling-more, filling-bad, filling-all}
+use Rattle.typed.proofs.Filling.{line-sound, Filling, filling-none, filling-more, filling-bad, filling-all}
 use Rattle.typed.proofs.read_lines.Statement.{statement}
 use Rattle.typed.proofs.read_lines.Tie as tie
-use Rattle.typed.proofs.read_lines.Reads as reads
-use Rattle.typed.proofs.read_lines.Lts as lts
-use Rattle.typed.proofs.after_last.Reads as after-last-reads
-use Rattle.typed.proofs.line_at.Reads as line-at-reads
 
 abbrev Inv-loop : tie.InvT-loop
 Inv-loop text from count kind₀ vkind₀ name₀ parent₀ begin₀ end₀ value₀ item₀ at₀ i₀ kind vkind name parent begin end value item at i =
@@ -123,7 +118,7 @@ loop-again c =
     let known = c .before .before in
     let call = known .before .before in
     let line = sym (call .line-at .ensures) ∙ known .node .given .1 in
-    filling-more (call .before .before .loop .inv) (call .before .loop-test .taken) (entry (call .before .before) .pre .1) line (given w32 (line-fits _ _ line))
+    filling-more (call .before .before .loop .inv) (call .before .loop-test .taken) (entry (call .before .before) .pre .1) line (given w32 (line-sound _ _ line .fits))
 
 after-last-requires : tie.Need-after-last-requires Inv-loop μ-loop
 after-last-requires c κs = search needs

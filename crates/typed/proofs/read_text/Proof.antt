@@ -4,10 +4,6 @@ use Rattle.typed.proofs.Texts.{reads-bad}
 use borrow.Author.Needs.{needs}
 use Rattle.typed.proofs.read_text.Statement.{statement}
 use Rattle.typed.proofs.read_text.Tie as tie
-use Rattle.typed.proofs.read_text.Reads as reads
-use Rattle.typed.proofs.read_text.Lts as lts
-use Rattle.typed.proofs.nothing.Reads as nothing-reads
-use Rattle.typed.proofs.read_into.Reads as read-into-reads
 
 slice-aggregate-read-into : tie.Need-slice-aggregate-read-into
 slice-aggregate-read-into c = search needs

@@ -9,10 +9,6 @@ use Rattle.typed.specs.Numeral.{top, digitsAt}
 use Rattle.typed.proofs.Numerals.{digit-code, left, left-all, left-on, left-none, left-end}
 use Rattle.typed.proofs.scan.digits_at.Statement.{statement}
 use Rattle.typed.proofs.scan.digits_at.Tie as tie
-use Rattle.typed.proofs.scan.digits_at.Reads as reads
-use Rattle.typed.proofs.scan.digits_at.Lts as lts
-use Rattle.typed.proofs.scan.is_digit.Reads as is-digit-reads
-use Rattle.typed.proofs.scan.longer.Reads as longer-reads
 
 abbrev Inv-loop : tie.InvT-loop
 Inv-loop text at value₀ next₀ value next = (value ≤ top) × (left text next value ≡ digitsAt text at)

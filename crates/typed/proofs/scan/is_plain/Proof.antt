@@ -3,9 +3,6 @@ use borrow.Author.Needs.{needs}
 use Rattle.typed.specs.Numeral.{isPlain}
 use Rattle.typed.proofs.scan.is_plain.Statement.{statement}
 use Rattle.typed.proofs.scan.is_plain.Tie as tie
-use Rattle.typed.proofs.scan.is_plain.Reads as reads
-use Rattle.typed.proofs.scan.is_plain.Lts as lts
-use Rattle.typed.proofs.scan.stands.Reads as stands-reads
 
 add-result : tie.Need-add-result
 add-result c = search needs

@@ -1,6 +1,6 @@
 -- `typed::scan::number_at` meets its contract.
-use mathlib.Core.Path.{_≡_, sym, _∙_, ap}
-use mathlib.Core.Bool.{true, _&&_}
+use mathlib.Core.Path.{_≡_, sym, _∙_}
+use mathlib.Core.Bool.{true}
 use native.Mathlib.Omega.{arith}
 use borrow.Author.Needs.{needs}
 use borrow.Author.Tests.{not-true, not-false}
@@ -8,11 +8,6 @@ use Rattle.typed.specs.Numeral.{stands}
 use Rattle.typed.proofs.Scans.{stands-inside, after-digits, number-good, number-unended, number-odd}
 use Rattle.typed.proofs.scan.number_at.Statement.{statement}
 use Rattle.typed.proofs.scan.number_at.Tie as tie
-use Rattle.typed.proofs.scan.number_at.Reads as reads
-use Rattle.typed.proofs.scan.number_at.Lts as lts
-use Rattle.typed.proofs.scan.digits_at.Reads as digits-at-reads
-use Rattle.typed.proofs.scan.is_plain.Reads as is-plain-reads
-use Rattle.typed.proofs.scan.stands.Reads as stands-reads
 
 digits-at-requires : tie.Need-digits-at-requires
 digits-at-requires c κs = search needs

@@ -5,16 +5,11 @@ use native.Mathlib.Omega.{arith}
 use borrow.Author.Tests.{not-true, not-false}
 use mir.Syntax.{w32}
 use Rattle.numbers.proofs.Signs.{given}
-use Rattle.typed.specs.Numeral.{stands, numberAt}
+use Rattle.typed.specs.Numeral.{stands}
 use Rattle.typed.proofs.Scans.{stands-inside, number-most, value-up, value-no-up, value-down, value-zero, value-no-down}
 use borrow.Author.Needs.{needs}
 use Rattle.typed.proofs.scan.value_at.Statement.{statement}
 use Rattle.typed.proofs.scan.value_at.Tie as tie
-use Rattle.typed.proofs.scan.value_at.Reads as reads
-use Rattle.typed.proofs.scan.value_at.Lts as lts
-use Rattle.numbers.proofs.signed_of.Reads as signed-of-reads
-use Rattle.typed.proofs.scan.number_at.Reads as number-at-reads
-use Rattle.typed.proofs.scan.stands.Reads as stands-reads
 
 stands-requires : tie.Need-stands-requires
 stands-requires c κs = search needs
