@@ -65,3 +65,27 @@ pub fn filled_front(fd: i32, n: usize, buf: &mut [u8]) -> bool {
     }
     filled(fd, &mut buf[0..n])
 }
+
+// A new file of this name with these bytes, whole and closed: whether that was done. A file of that name is not written to.
+fn make(path: &[u8], bytes: &[u8]) -> bool {
+    let fd = os::create(path);
+    if fd < 0 {
+        return false;
+    }
+    let whole = io::write_all(fd, bytes);
+    let closed = libc::close(fd);
+    whole & (closed == 0)
+}
+
+// The file `path` replaced by one with these bytes, all at once: they go to the new file `part`, which then takes the name. Whether that was
+// done: if not, `path` is as it was. No `part` is left where it can be removed, be it of a run that was broken off.
+pub fn replace(path: &[u8], part: &[u8], bytes: &[u8]) -> bool {
+    os::unlink(part);
+    if make(part, bytes) {
+        if os::rename(part, path) == 0 {
+            return true;
+        }
+    }
+    os::unlink(part);
+    false
+}

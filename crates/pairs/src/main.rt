@@ -163,7 +163,7 @@ fn written<'a>(
     item: &'a [u32],
     image: &mut [u8],
 ) -> Output {
-    writer::write_nodes(n, kind, vkind, name, parent, begin, end, value, item, image)
+    bank::write_nodes(n, kind, vkind, name, parent, begin, end, value, item, image)
 }
 
 // The records of an opened image written to a lent one; or what it was refused with.

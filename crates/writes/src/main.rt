@@ -235,7 +235,7 @@ fn answer(
     item: &[u32],
     image: &mut [u8],
 ) {
-    let output = writer::write_nodes(
+    let output = bank::write_nodes(
         long(head, 0),
         spelling::front(kind, long(head, 8)),
         spelling::front(vkind, long(head, 12)),
