@@ -117,6 +117,17 @@ recordLines doc i =
     ∷ line 8 i (TooDeep doc i)
     ∷ []
 
+-- THE ORDER OF A DOCUMENT, of its records without an image: record by record 4, 5, 6, 8; then 7; then 9; 10
+abbrev pub documentLines : Doc → List Line
+documentLines doc =
+    joined (
+    each (doc .size) (recordLines doc)
+    ∷ each (doc .size) (λ i. line 7 i (Misplaced doc i) ∷ [])
+    ∷ each (doc .size) (λ i. line 9 i (Clashes doc i) ∷ [])
+    ∷ (line 10 0 (Unrooted doc) ∷ [])
+    ∷ []
+    )
+
 -- THE ORDER OF A NODE IMAGE: 1; block by block 2, 3, 4; record by record 4, 5, 6, 8; then 7; then 9; 10
 abbrev pub nodeLines : List ℕ → List Line
 nodeLines image =

@@ -21,8 +21,8 @@ use Rattle.meaning.proofs.Sound.{Version, SoundRecords, Placed}
 use Rattle.meaning.proofs.Records.{sound-records, version-at}
 use Rattle.meaning.proofs.Places.{counted, is-version, version-says, placed}
 use Rattle.meaning.proofs.Roots.{rooted, not-whole}
-use Rattle.meaning.proofs.Lines.{line, each, joined, Says, accepts, need-says, then-says, each-says, one-says}
-use Rattle.meaning.proofs.Due.{Misplaced, early as too-early, begins-before, ends-after, HasDay, OneNumber, Clashes, other-name, shared-day, Unrooted, no-version, gap, recordLines, nodeLines}
+use Rattle.meaning.proofs.Lines.{joined, Says, accepts, need-says, then-says, each-says, one-says}
+use Rattle.meaning.proofs.Due.{Misplaced, early as too-early, begins-before, ends-after, HasDay, OneNumber, Clashes, other-name, shared-day, Unrooted, no-version, gap, documentLines, nodeLines}
 use Rattle.meaning.proofs.DueBlocks.{blocks-say}
 use Rattle.meaning.proofs.DueRecords.{records-say}
 
@@ -105,15 +105,7 @@ module _ (doc : Doc) where
   period-of r v h k = version-at doc v (r .table v h) k .period
 
   -- 4 to 10
-  document-says : Says (accept doc) (
-      joined (
-      each (doc .size) (recordLines doc)
-      ∷ each (doc .size) (λ i. line 7 i (Misplaced doc i) ∷ [])
-      ∷ each (doc .size) (λ i. line 9 i (Clashes doc i) ∷ [])
-      ∷ (line 10 0 (Unrooted doc) ∷ [])
-      ∷ []
-      )
-      )
+  pub document-says : Says (accept doc) (documentLines doc)
   unfolding accept documentTests inOrder joined
   document-says =
       then-says (earliest (readRecord doc) 0 (doc .size)) _ (records-say doc)

@@ -9,3 +9,6 @@ pub mod Rewritten
 pub mod Puts
 pub mod Fillings
 pub mod Writes
+pub mod WriteLines
+pub mod Again
+pub mod Outcomes

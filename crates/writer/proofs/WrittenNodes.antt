@@ -54,7 +54,7 @@ node-back n h =
     }
 
 -- what stands at a place of a list that a function was applied to, whatever is taken past the ends
-getD-mapped : {A B : Type 0} (f : A → B) (l : List A) (i : ℕ) (a : A) (b : B) → i < length l → getD (map f l) i b ≡ f (getD l i a)
+pub getD-mapped : {A B : Type 0} (f : A → B) (l : List A) (i : ℕ) (a : A) (b : B) → i < length l → getD (map f l) i b ≡ f (getD l i a)
 getD-mapped f [] i a b h = absurd (omega arith)
 getD-mapped f (x ∷ l) zero a b h = refl
 getD-mapped f (x ∷ l) (suc i) a b h = getD-mapped f l i a b (omega arith)
