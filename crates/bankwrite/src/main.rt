@@ -4,6 +4,13 @@ use libc::STDOUT_FILENO;
 use meaning::Output;
 use typed::Typed;
 use typed::TypedRecords;
+ghost use mathlib.Core.Path.{_≡_};
+ghost use Rattle.meaning.specs.Lent.{lent};
+ghost use Rattle.meaning.specs.Nodes.{imageOf};
+ghost use Rattle.typed.specs.declared.Typed.the-variants.{Records};
+ghost use Rattle.typed.specs.Listing.{textOf};
+ghost use Rattle.typed.specs.Entered.{Reads};
+ghost use Rattle.bankwrite.specs.Written.{Writes};
 
 // The longest good text: a count of four digits and a line feed; then for each record three digits each of its kind and its value kind, five
 // each of its name, parent, begin and end, eleven characters of its value, ten digits of its item number, and the eight bytes that end them.
@@ -44,8 +51,10 @@ fn print_unreadable(name: &[u8]) {
     print(&line, end);
 }
 
-// An image goes to its file, all at once.
-fn keep(image: &[u8]) {
+// The image of the records that a text lists goes to its file, all at once: nothing else may be given to it.
+fn keep(text: &[u8], image: &[u8])
+    requires { ⌜ now image ≡ imageOf (textOf (now text) .listed) ⌝ }
+{
     if files::replace(b"nodes.blk", b"nodes.blk.part", image) {
         print_number(b"written", image.len());
     } else {
@@ -65,7 +74,9 @@ fn write_nodes<'a>(
     value: &'a [i32],
     item: &'a [u32],
     image: &mut [u8],
-) -> Output {
+) -> Output
+    ensures { λ r. ⌜ Writes count (lent (now (kind .entry)) (now (vkind .entry)) (now (name .entry)) (now (parent .entry)) (now (begin .entry)) (now (end .entry)) (now (value .entry)) (now (item .entry))) (now (image .entry)) r (now (image .exit)) ⌝ }
+{
     writer::write_nodes(
         count,
         kind,
@@ -80,8 +91,10 @@ fn write_nodes<'a>(
     )
 }
 
-// The records that were read are written, or refused.
-fn write_records(records: TypedRecords, count: usize) {
+// The records that a text lists are written, or refused.
+fn write_records(text: &[u8], records: TypedRecords, count: usize)
+    requires { ⌜ Reads (now text) records × (records .answer ≡ Records count) ⌝ }
+{
     let mut image = [0u8; IMAGE_ROOM];
     let output = write_nodes(
         count,
@@ -96,7 +109,7 @@ fn write_records(records: TypedRecords, count: usize) {
         &mut image,
     );
     match output {
-        Output::Written(size) => keep(spelling::front(&image, size)),
+        Output::Written(size) => keep(text, spelling::front(&image, size)),
         Output::Refused(number, place) => print_refusal(number, place),
     }
 }
@@ -106,7 +119,7 @@ fn write_text(text: &[u8]) {
     let records = typed::read_text(text);
     let answer = records.answer;
     match answer {
-        Typed::Records(count) => write_records(records, count),
+        Typed::Records(count) => write_records(text, records, count),
         Typed::Bad(line) => print_number(b"malformed records.txt line", line),
     }
 }

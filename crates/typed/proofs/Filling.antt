@@ -68,10 +68,12 @@ abbrev pub front : List Node → Lines → Lines
 front ns (records rest) = records (ns ++ rest)
 front ns (bad k) = bad k
 
+-- none before them
 front-none : (l : Lines) → front [] l ≡ l
 front-none (records rest) = refl
 front-none (bad k) = refl
 
+-- one more before them is one less in them
 front-more : (ns : List Node) (node : Node) (l : Lines) → front (ns ++ (node ∷ [])) l ≡ front ns (before node l)
 front-more ns node (records rest) = ap records (append-assoc ns (node ∷ []) rest)
 front-more ns node (bad k) = refl
@@ -138,6 +140,7 @@ pub record Filling (text : List ℕ) (from n : ℕ) (old new : Lent) (at i : ℕ
   pub rest : front listed (linesAt text at (i + 2) (n - i)) ≡ linesAt text from 2 n
   pub columns : Entered listed old new
 
+-- no line is read yet
 pub filling-none : (text : List ℕ) (from n : ℕ) (old : Lent) → Filling text from n old old from 0
 filling-none text from n old =
     record {

@@ -33,9 +33,11 @@ pub record Whole (n : ℕ) (ns : List Node) : Type 0 where
   pub many : length ns ≡ n
   pub spare : (i : ℕ) → getD ns i zeros .spare ≡ 0
 
+-- no record
 whole-none : Whole 0 []
 whole-none = record { many = refl; spare = λ i. refl }
 
+-- one record more
 whole-more : {n : ℕ} {ns : List Node} {node : Node} → node .spare ≡ 0 → Whole n ns → Whole (suc n) (node ∷ ns)
 whole-more {n} {ns} {node} e w = record { many = ap suc (w .many); spare = spare }
   where
@@ -105,6 +107,7 @@ module _ {n : ℕ} {ns : List Node} (w : Whole n ns) {old new : Lent} (c : Enter
       let spare = sym (w .spare i) in
       λ j. record { kind = kind j; vkind = vkind j; name = name j; parent = parent j; begin = begin j; end = end j; value = value j; item = item j; spare = spare j }
 
+  -- all of them
   pub nodes-entered : nodesLent n new ≡ ns
   unfolding nodesLent
   nodes-entered =

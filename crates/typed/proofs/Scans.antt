@@ -33,6 +33,7 @@ digits-after (x ∷ s) v i =
     (λ t. rw t (omega arith))
     (went (isDigit x))
 
+-- of a text's digits
 pub after-digits : (text : List ℕ) (at : ℕ) {d : Digits} → d ≡ digitsAt text at → at ≤ d .next
 unfolding digitsAt
 after-digits text at e = rw e (digits-after (drop at text) 0 at)

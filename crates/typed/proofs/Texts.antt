@@ -67,6 +67,7 @@ told-none : (n : ℕ) (l : Lines) {k : ℕ} → told n l .answer ≡ Bad k → t
 told-none n (records ns) e = let z : _≡_ {A = ℕ} 0 1 = cc in absurd (omega arith)
 told-none n (bad k) e = refl
 
+-- a whole text
 bad-none : (text : List ℕ) {k : ℕ} → textOf text .answer ≡ Bad k → textOf text .listed ≡ []
 unfolding textOf
 bad-none text {k} e = go (numberAt text 0 top 10) e

@@ -51,6 +51,7 @@ wrong k = record { answer = Bad k; listed = [] }
 abbrev pub counted : ℕ → Text
 counted n = record { answer = Records n; listed = [] }
 
+-- a good text of two records
 pub two-records : textOf (word "2\n1 0 1 65535 0 0 0 1\n2 1 0 0 100 500 -2150 4294967295\n")
     ≡ record {
       answer = Records 2;

@@ -24,10 +24,12 @@ outcome : (y : Reading) (m : ℕ) {b : ℕ} → outputAfter y m ≡ Written b �
 outcome Accepted m e = (refl, cc)
 outcome (Refused k p) m e = let wrong : _≡_ {A = ℕ} 0 1 = cc in absurd (omega arith)
 
+-- what is accepted has its first part accepted
 accepted-first : (y z : Reading) → andThen y z ≡ Accepted → y ≡ Accepted
 accepted-first Accepted z e = refl
 accepted-first (Refused k p) z e = e
 
+-- a test that did not refuse has passed
 needed : (t : Bool) (k p : ℕ) → need t k p ≡ Accepted → t ≡ true
 needed true k p e = refl
 needed false k p e = let wrong : _≡_ {A = ℕ} 0 1 = cc in absurd (omega arith)

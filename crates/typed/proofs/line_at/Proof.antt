@@ -44,27 +44,35 @@ to-end c = c .before .before .before .before
 abbrev to-value : tie.After-known-told8 → tie.After-known-told7
 to-value c = c .before .before .before .before
 
+-- where kind is known, it was read at its place
 abbrev kind-read : (c : tie.After-known-told) → numberAt (entry c .args .text .now) (entry c .args .at) 255 32 ≡ Number (c .before .kind .given .0 .0) (c .before .kind .given .0 .1 .0)
 kind-read c = sym (c .before .before .before .number-at .ensures) ∙ c .before .kind .given .1
 
+-- where vkind is known, it was read at its place
 abbrev vkind-read : (c : tie.After-known-told2) → numberAt (entry (to-kind c) .args .text .now) (to-kind c .before .kind .given .0 .1 .0) 255 32 ≡ Number (c .before .vkind .given .0 .0) (c .before .vkind .given .0 .1 .0)
 vkind-read c = sym (c .before .before .before .number-at2 .ensures) ∙ c .before .vkind .given .1
 
+-- where name is known, it was read at its place
 abbrev name-read : (c : tie.After-known-told3) → numberAt (entry (to-kind (to-vkind c)) .args .text .now) (to-vkind c .before .vkind .given .0 .1 .0) 65535 32 ≡ Number (c .before .name .given .0 .0) (c .before .name .given .0 .1 .0)
 name-read c = sym (c .before .before .before .number-at3 .ensures) ∙ c .before .name .given .1
 
+-- where parent is known, it was read at its place
 abbrev parent-read : (c : tie.After-known-told4) → numberAt (entry (to-kind (to-vkind (to-name c))) .args .text .now) (to-name c .before .name .given .0 .1 .0) 65535 32 ≡ Number (c .before .parent .given .0 .0) (c .before .parent .given .0 .1 .0)
 parent-read c = sym (c .before .before .before .number-at4 .ensures) ∙ c .before .parent .given .1
 
+-- where begin is known, it was read at its place
 abbrev begin-read : (c : tie.After-known-told5) → numberAt (entry (to-kind (to-vkind (to-name (to-parent c)))) .args .text .now) (to-parent c .before .parent .given .0 .1 .0) 65535 32 ≡ Number (c .before .begin .given .0 .0) (c .before .begin .given .0 .1 .0)
 begin-read c = sym (c .before .before .before .number-at5 .ensures) ∙ c .before .begin .given .1
 
+-- where end is known, it was read at its place
 abbrev end-read : (c : tie.After-known-told6) → numberAt (entry (to-kind (to-vkind (to-name (to-parent (to-begin c))))) .args .text .now) (to-begin c .before .begin .given .0 .1 .0) 65535 32 ≡ Number (c .before .end .given .0 .0) (c .before .end .given .0 .1 .0)
 end-read c = sym (c .before .before .before .number-at6 .ensures) ∙ c .before .end .given .1
 
+-- where value is known, it was read at its place
 abbrev value-read : (c : tie.After-known-told7) → valueAt (entry (to-kind (to-vkind (to-name (to-parent (to-begin (to-end c)))))) .args .text .now) (to-end c .before .end .given .0 .1 .0) 32 ≡ Value (c .before .value .given .0 .0) (c .before .value .given .0 .1 .0)
 value-read c = sym (c .before .before .before .value-at .ensures) ∙ c .before .value .given .1
 
+-- where item is known, it was read at its place
 abbrev item-read : (c : tie.After-known-told8) → numberAt (entry (to-kind (to-vkind (to-name (to-parent (to-begin (to-end (to-value c))))))) .args .text .now) (to-value c .before .value .given .0 .1 .0) 4294967295 10 ≡ Number (c .before .item .given .0 .0) (c .before .item .given .0 .1 .0)
 item-read c = sym (c .before .before .before .number-at7 .ensures) ∙ c .before .item .given .1
 

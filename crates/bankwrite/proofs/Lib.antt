@@ -1,0 +1,2 @@
+-- The law that the program's proof cites.
+pub mod Kept
