@@ -1,30 +1,34 @@
--- The three demands as theorems about the public calls `verdict`, `slice` and `change_days`, each statement to be read by itself.
+-- The three demands as theorems about the public calls `verdict`, `slice` and `change_days`, and what holds of `write_nodes`, each statement to be read by itself.
 use mathlib.Core.Path.{_≡_, refl, sym, _∙_}
 use mathlib.Core.Logic.{_↔_, _⊎_}
 use mathlib.Core.List.{List, _++_}
 use Prim.Native.Nat.{ℕ, _+_, _*_, _≤_, _<_}
 use native.Mathlib.Omega.{arith}
 use lib.Dec.{leb}
-use lib.ListN.{length, drop}
-use Rattle.meaning.specs.Block.{limit}
+use lib.IntN.{pos}
+use lib.ListN.{length, take, drop}
+use Rattle.meaning.specs.Block.{nodeForm, limit, blocksFor}
 use Rattle.meaning.specs.declared.Rule.{Rule}
 use Rattle.meaning.specs.declared.Reading.the-variants.{Accepted, Refused}
 use Rattle.meaning.specs.declared.Verdict.{Verdict}
 use Rattle.meaning.specs.declared.Verdict.the-variants.{Holds, Fails, Refused as Unjudged}
 use Rattle.meaning.specs.declared.Listed.{Listed}
 use Rattle.meaning.specs.declared.Listed.the-variants.{Stored, Refused as Unlisted}
+use Rattle.meaning.specs.declared.Output.{Output}
+use Rattle.meaning.specs.declared.Output.the-variants.{Written, Refused as Unwritten}
 use Rattle.meaning.specs.Order.{need, andThen}
 use Rattle.meaning.specs.Document.{Doc}
-use Rattle.meaning.specs.Nodes.{docOf, readNodes}
+use Rattle.meaning.specs.Nodes.{nodesOf, docOf, readNodes, imageOf}
+use Rattle.meaning.specs.Lent.{Lent, lent, nodesLent, longEnough, readLent}
 use Rattle.meaning.specs.Rules.{ruleAt, rulesOf, readRules}
 use Rattle.meaning.specs.Walk.{count, pick}
 use Rattle.meaning.specs.Select.{reads}
 use Rattle.meaning.specs.Day.{alive, slice, offender, onDays}
 use Rattle.meaning.specs.Window.{Window, windows}
-use Rattle.meaning.specs.Answer.{referredBy, judged, verdict, readVerdict, sliceAnswer, sliceLent, readSlice, changesOf, changesAnswer, changesLent, readChanges}
+use Rattle.meaning.specs.Answer.{referredBy, judged, verdict, readVerdict, sliceAnswer, sliceLent, readSlice, changesOf, changesAnswer, changesLent, readChanges, readWrite}
 use Rattle.meaning.proofs.Unique as Unique
 use Rattle.meaning.proofs.Sound.{SoundNodes, SoundRules}
-use Rattle.meaning.proofs.Lines.{FirstDue}
+use Rattle.meaning.proofs.Lines.{FirstDue, refused-exactly}
 use Rattle.meaning.proofs.Due.{verdictLines, sliceLines, changesLines}
 use Rattle.meaning.proofs.Theorems.{nodes-accepted, rules-accepted, verdict-refused, slice-refused, changes-refused, fails-on-days, fails-in-windows, which-windows, enough-days}
 use Rattle.meaning.proofs.Accepted.{sound-accepted}
@@ -39,6 +43,20 @@ use Rattle.meaning.proofs.Windows.{NoFaultAmong, FirstFaultIn}
 use Rattle.meaning.proofs.Slices as Slices
 use Rattle.meaning.proofs.Faults as Faults
 use Rattle.meaning.proofs.Windows as Windows
+use Rattle.columns.specs.declared.Columns.{Columns}
+use Rattle.columns.specs.declared.Loaded.the-variants.{Nodes}
+use Rattle.nodes.specs.Unpacking.{Unpacks}
+use Rattle.nodes.proofs.Loads.{blocks-good}
+use Rattle.nodes.proofs.Held as Held
+use Rattle.writer.specs.Promise.{WritePromise}
+use Rattle.writer.specs.Filling.{Reaches}
+use Rattle.writer.proofs.Stretches.{Bytes}
+use Rattle.writer.proofs.WriteLines.{FiveToTen, writeLines, long-enough, write-says, write-numbers}
+use Rattle.writer.proofs.Again.{Unpacked}
+use Rattle.writer.proofs.Outcomes.{Fitting}
+use Rattle.writer.proofs.Rewritten as Rewritten
+use Rattle.writer.proofs.Again as Again
+use Rattle.writer.proofs.Outcomes as Outcomes
 use Rattle.judging.proofs.Modes.{judged-days, judged-windows}
 use Rattle.bank.specs.Promises.{VerdictPromise, SlicePromise, ChangesPromise}
 use Rattle.bank.proofs.Calls as Calls
@@ -366,3 +384,90 @@ change-days-room-any nodes rules k lent y after c w s h =
 pub slice-room : (nodes : List ℕ) (d : ℕ) (lent : List ℕ) (x : Listed) (after : List ℕ) → SlicePromise nodes d lent x after
     → SoundNodes nodes → d ≤ 36524 → limit ≤ length lent → (m : ℕ) × (x ≡ Stored m)
 slice-room nodes d lent x after p n l h = slice-refusals nodes d lent x after p .given .1 (n, l, omega (arith, slice-most nodes n d))
+
+-- 4. Writing (02, request 1). n records stand in the lent columns c (`nodesLent n c`), and their image is `imageOf (nodesLent n c)`; x is an
+-- answer, and `after` an image, that the promise of `write_nodes` allows where `image` was lent.
+-- Two answers that it may give are equal, and so are two images that it may leave.
+pub write-unique : (n : ℕ) (c : Lent) (image : List ℕ) (x y : Output) (after other : List ℕ) → WritePromise n c image x after → WritePromise n c image y other → (x ≡ y) × (after ≡ other)
+write-unique n c image x y after other p q = (Unique.output-unique x y (p .0 ∙ sym (q .0)), p .1 ∙ sym (q .1))
+
+-- It has an answer for all columns and every lent image.
+pub write-answers : (n : ℕ) (c : Lent) (image : List ℕ) → (x : Output) × (after : List ℕ) × WritePromise n c image x after
+write-answers n c image = (_, _, (refl, refl))
+
+-- What was written in m bytes.
+pub record WellWritten (n : ℕ) (c : Lent) (image : List ℕ) (m : ℕ) (after : List ℕ) : Type 0 where
+  -- whole blocks, as many as the records take, for which there was room
+  pub size : m ≡ 512 * blocksFor nodeForm n
+  pub room : m ≤ length image
+  -- they are the image of the records, and the bytes past them are as they were
+  pub bytes : take m after ≡ imageOf (nodesLent n c)
+  pub rest : drop m after ≡ drop m image
+  -- reading them is accepted, and gives the same records
+  pub accepted : readNodes (take m after) ≡ Accepted
+  pub same-records : nodesOf (take m after) ≡ nodesLent n c
+
+-- What is written is so, for all columns that are not refused (their values being numbers of 32 bits, as the column's type says).
+pub well-written : (n : ℕ) (c : Lent) (image : List ℕ) (x : Output) (after : List ℕ) → WritePromise n c image x after → Fitting n c → (m : ℕ) → x ≡ Written m → WellWritten n c image m after
+well-written n c image x after p f m e =
+    record {
+      size = Outcomes.written-size n c image p m e;
+      room = Outcomes.written-room n c image p m e;
+      bytes = Outcomes.written-front n c image p m e;
+      rest = Outcomes.written-rest n c image p m e;
+      accepted = Outcomes.written-accepted n c image p m e f;
+      same-records = Outcomes.written-records n c image p m e f;
+    }
+
+-- What `write_nodes` refuses, and how.
+pub record WriteRefusals (n : ℕ) (c : Lent) (image : List ℕ) (x : Output) (after : List ℕ) : Type 0 where
+  -- refused with number a and place b exactly when these are of the first line that is due of the call's table, in its order (writer/proofs/WriteLines.antt)
+  pub exactly : (a b : ℕ) → (x ≡ Unwritten a b) ↔ FirstDue a b (writeLines n c image)
+  -- where count and columns are taken, as the reader refuses the image of these records; ..
+  pub as-reader : 1 ≤ n → n ≤ limit → Reaches n c → Fitting n c → (a b : ℕ) → readNodes (imageOf (nodesLent n c)) ≡ Refused a b → x ≡ Unwritten a b
+  -- .. and whatever is refused with another number than 1 and 12, the reader refuses so
+  pub reader-so : Fitting n c → (a b : ℕ) → (a ≡ 1 → ⊥) → (a ≡ 12 → ⊥) → x ≡ Unwritten a b → readNodes (imageOf (nodesLent n c)) ≡ Refused a b
+  -- the numbers are 1, 12 and those from 5 to 10: never 2, 3 or 4
+  pub numbers : (a b : ℕ) → x ≡ Unwritten a b → (a ≡ 1) ⊎ ((a ≡ 12) ⊎ FiveToTen a)
+  -- every byte stays as it was
+  pub unchanged : (a b : ℕ) → x ≡ Unwritten a b → after ≡ image
+
+-- Each answer that it may give is refused so.
+pub write-refusals : (n : ℕ) (c : Lent) (image : List ℕ) (x : Output) (after : List ℕ) → WritePromise n c image x after → WriteRefusals n c image x after
+write-refusals n c image x after p =
+    record {
+      exactly = λ a b. Calls.through (Outcomes.refused-as-read n c image p a b) (refused-exactly (readWrite n c image) (writeLines n c image) (write-says n c image) a b);
+      as-reader = λ one few r f. Outcomes.refused-as-image n c image p one few (long-enough n c .1 r) f;
+      reader-so = λ f a b i j e. Outcomes.image-refused-so n c image p f a b i j e;
+      numbers = λ a b e. write-numbers n c image a b (Outcomes.refused-as-read n c image p a b .0 e);
+      unchanged = Outcomes.refused-kept n c image p;
+    }
+
+-- Writing what was read from an accepted image gives the same bytes, whatever the columns hold past its records and whatever else is lent, ..
+pub read-then-written : (image : List ℕ) → Bytes image → readNodes image ≡ Accepted → (n : ℕ) (c : Lent) → Unpacked image n c
+    → (given : List ℕ) (x : Output) (after : List ℕ) → WritePromise n c given x after → length image ≤ length given
+    → (x ≡ Written (length image)) × (after ≡ image ++ drop (length image) given)
+read-then-written image bytes e n c u given x after p h =
+    let same = Again.unpacked-again image n c u e bytes in
+    let w = Outcomes.accepted-written n c given p (Again.unpacked-accepted image n c u e) (rw same h) in
+    rw same at w
+
+-- .. where such columns are those that an image is opened into.
+pub opened-unpacked : (image : List ℕ) (c : Columns) → Unpacks image c → (n : ℕ) → c .loaded ≡ Nodes n
+    → Unpacked image n (lent (c .kind) (c .vkind) (c .name) (c .parent) (c .begin) (c .end) (c .value) (c .item))
+opened-unpacked image c u n r =
+    record {
+      count = Held.held image u r .count;
+      kind = Held.front image u r _ 0 (u .kind);
+      vkind = Held.front image u r _ 0 (u .vkind);
+      name = Held.front image u r _ 0 (u .name);
+      parent = Held.front image u r _ 0 (u .parent);
+      begin = Held.front image u r _ 0 (u .begin);
+      end = Held.front image u r _ 0 (u .end);
+      value = Held.front image u r _ (pos 0) (u .value);
+      item = Held.front image u r _ 0 (u .item);
+    }
+
+-- So an accepted document has exactly one image.
+pub one-image : (s t : List ℕ) → Bytes s → Bytes t → readNodes s ≡ Accepted → readNodes t ≡ Accepted → nodesOf s ≡ nodesOf t → s ≡ t
+one-image s t hs ht es et = Rewritten.one-image s t hs ht (blocks-good s es) (blocks-good t et)

@@ -76,11 +76,11 @@ module _ (image : List ℕ) where
 
   -- accepted: the columns hold its document
   module _ {c : Columns} (u : Unpacks image c) {n : ℕ} (r : c .loaded ≡ Nodes n) where
-    held : Held image n
+    pub held : Held image n
     held = held-image (u .answer) r
 
     -- one field, up to the count
-    front : {A : Type 0} (field : Node → A) (zero : A) {column : List A} → column ≡ columnOf field zero image → take n column ≡ map field (nodesOf image)
+    pub front : {A : Type 0} (field : Node → A) (zero : A) {column : List A} → column ≡ columnOf field zero image → take n column ≡ map field (nodesOf image)
     unfolding columnOf
     front field zero e =
         rw (e, records-good image (blocks-good image (held .accepted)))

@@ -5,7 +5,7 @@ use mathlib.Core.Bool.{Bool, true, false, cond, _&&_}
 use mathlib.Core.List.{List, _++_}
 use Prim.Native.Nat.{ℕ, _+_, _*_, _≤_, _<_}
 use native.Mathlib.Omega.{arith}
-use borrow.Author.Tests.{leb-true}
+use borrow.Author.Tests.{leb-true, le-leb}
 use lib.Dec.{leb}
 use lib.IntN.{pos}
 use lib.Signed.{mag}
@@ -50,6 +50,17 @@ as-read (Refused k p) m a b = (λ e. (cc), λ e. (cc))
 as-written : (y : Reading) (m k : ℕ) → outputAfter y m ≡ Written k → (y ≡ Accepted) × (k ≡ m)
 as-written Accepted m k e = (refl, cc)
 as-written (Refused a b) m k e = let z : _≡_ {A = ℕ} 0 1 = cc in absurd (omega arith)
+
+-- a refusal with another number than a test's own: the test passed, and the refusal came from what follows it ..
+refused-later : (t : Bool) (k p : ℕ) (y : Reading) (a b : ℕ) → (a ≡ k → ⊥) → andThen (need t k p) y ≡ Refused a b → (t ≡ true) × (y ≡ Refused a b)
+refused-later true k p y a b other e = (refl, e)
+refused-later false k p y a b other e = absurd (other (cc))
+
+-- .. or from what comes before it
+refused-sooner : (y : Reading) (t : Bool) (k p a b : ℕ) → (a ≡ k → ⊥) → andThen y (need t k p) ≡ Refused a b → y ≡ Refused a b
+refused-sooner Accepted true k p a b other e = absurd (contrary refl e)
+refused-sooner Accepted false k p a b other e = absurd (other (cc))
+refused-sooner (Refused l q) t k p a b other e = e
 
 module _ (n : ℕ) (c : Lent) (image : List ℕ) {x : Output} {after : List ℕ} (p : WritePromise n c image x after) where
   answer : x ≡ writeAnswer n c image
@@ -124,3 +135,22 @@ module _ (n : ℕ) (c : Lent) (image : List ℕ) {x : Output} {after : List ℕ}
     where
       both-true : 1 ≤ n → n ≤ limit → leb 1 n && leb n limit ≡ true
       both-true h k = simp says (h, k)
+
+  -- what is refused with another number than 1 and 12 is refused by the document of the records, and so by the reader of their image
+  pub image-refused-so : Fitting n c → (a b : ℕ) → (a ≡ 1 → ⊥) → (a ≡ 12 → ⊥) → x ≡ Unwritten a b → readNodes (imageOf (nodesLent n c)) ≡ Refused a b
+  unfolding readWrite readLent
+  image-refused-so f a b not-1 not-12 e =
+      let r = refused-as-read a b .0 e in
+      let count = lent-count n c in
+      let one = refused-later (leb 1 n && leb n limit) 1 0 _ a b not-1 (refused-sooner _ (leb (length (imageOf (nodesLent n c))) (length image)) 12 0 a b not-12 r) in
+      let two = refused-later (longEnough n c) 12 0 _ a b not-12 (one .1) in
+      let q = simp says at (one .0) in
+      image-read (nodesLent n c) (omega (arith, count)) (omega (arith, count)) (fitting n c f) ∙ two .1
+
+  -- columns that are not refused, and room for their image: it is written
+  pub accepted-written : readLent n c ≡ Accepted → length (imageOf (nodesLent n c)) ≤ length image
+      → (x ≡ Written (length (imageOf (nodesLent n c)))) × (after ≡ imageOf (nodesLent n c) ++ drop (length (imageOf (nodesLent n c))) image)
+  unfolding writeAnswer writeImage readWrite
+  accepted-written e h =
+      let t = le-leb (length (imageOf (nodesLent n c))) (length image) h in
+      (answer ∙ rw (e, t), p .1 ∙ rw (e, t))

@@ -9,7 +9,8 @@ use borrow.Author.Tests.{leb-true, leb-false}
 use lib.Dec.{leb}
 use lib.ListN.{length, getD}
 use Rattle.meaning.specs.declared.Node.{Node}
-use Rattle.meaning.specs.declared.Reading.the-variants.{Refused}
+use Rattle.meaning.specs.declared.Reading.{Reading}
+use Rattle.meaning.specs.declared.Reading.the-variants.{Accepted, Refused}
 use Rattle.meaning.specs.Walk.{listed}
 use Rattle.meaning.specs.Order.{need, andThen}
 use Rattle.meaning.specs.Block.{limit}
@@ -19,6 +20,7 @@ use Rattle.meaning.specs.Lent.{Lent, nodeAt, nodesLent, longEnough, readLent}
 use Rattle.meaning.specs.Answer.{readWrite}
 use Rattle.meaning.proofs.Basics.{and-else}
 use Rattle.meaning.proofs.Says.{says}
+use Rattle.meaning.proofs.Orders.{contrary}
 use Rattle.meaning.proofs.Walks.{map-listed}
 use Rattle.meaning.proofs.Lines.{Line, line, each, eachFrom, joined, FirstDue, Says, need-says, need-broken, then-says}
 use Rattle.meaning.proofs.Due.{Misplaced, Clashes, recordLines, documentLines}
@@ -117,3 +119,18 @@ no-spare (suc n) (suc i) j = no-spare n i (suc j)
 pub lent-numbers : (n : ℕ) (c : Lent) (a b : ℕ) → accept (ofNodes (nodesLent n c)) ≡ Refused a b → FiveToTen a
 unfolding ofNodes nodesLent
 lent-numbers n c = document-numbers (ofNodes (nodesLent n c)) (λ i. ap (λ (s : List ℕ). getD s i 0) (map-listed (λ (m : Node). m .spare) (nodeAt c) 0 n) ∙ no-spare n i 0)
+
+-- two tests, a reading and a last test: the number of the first that refuses
+by-number : (t w : Bool) (y : Reading) (r : Bool) (a b : ℕ) → (y ≡ Refused a b → FiveToTen a)
+    → andThen (andThen (need t 1 0) (andThen (need w 12 0) y)) (need r 12 0) ≡ Refused a b → (a ≡ 1) ⊎ ((a ≡ 12) ⊎ FiveToTen a)
+by-number false w y r a b f e = inl (cc)
+by-number true false y r a b f e = inr (inl (cc))
+by-number true true (Refused k p) r a b f e = inr (inr (f e))
+by-number true true Accepted false a b f e = inr (inl (cc))
+by-number true true Accepted true a b f e = absurd (contrary refl e)
+
+-- the call is refused with 1, 12, or 5 to 10
+pub write-numbers : (n : ℕ) (c : Lent) (image : List ℕ) (a b : ℕ) → readWrite n c image ≡ Refused a b → (a ≡ 1) ⊎ ((a ≡ 12) ⊎ FiveToTen a)
+unfolding readWrite readLent
+write-numbers n c image a b =
+    by-number (leb 1 n && leb n limit) (longEnough n c) (accept (ofNodes (nodesLent n c))) (leb (length (imageOf (nodesLent n c))) (length image)) a b (lent-numbers n c a b)
