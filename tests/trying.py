@@ -7,6 +7,8 @@ import tempfile
 from running import ROOT
 
 BANKCHECK = os.path.join(ROOT, "bankcheck")
+BANKWRITE = os.path.join(ROOT, "bankwrite")
+RECORDS = os.path.join(ROOT, "crates", "bankwrite", "data", "records.txt")  # of the example bank
 WRITE = os.path.join(ROOT, "examples", "write")
 CASES = os.path.join(ROOT, "tests", "cases")
 GOLDEN = os.path.join(ROOT, "tests", "golden")
@@ -87,6 +89,14 @@ def bank_in(*path):
     os.makedirs(folder)
     for name in ("nodes.blk", "rules.blk"):
         shutil.copyfile(os.path.join(ROOT, "examples", "bank", name), os.path.join(folder, name))
+    return folder
+
+
+def records_in(*path):
+    """A folder with the records of the example bank, typed."""
+    folder = os.path.join(*path)
+    os.makedirs(folder)
+    shutil.copyfile(RECORDS, os.path.join(folder, "records.txt"))
     return folder
 
 
