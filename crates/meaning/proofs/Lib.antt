@@ -47,6 +47,7 @@ pub mod Examples
 pub mod Theorems
 pub mod Working
 pub mod PinnedImages
+pub mod PinnedWrites
 pub mod PinnedNodes
 pub mod PinnedRules
 pub mod PinnedDays

@@ -8,7 +8,9 @@ use Rattle.meaning.specs.declared.Verdict.{Verdict}
 use Rattle.meaning.specs.declared.Verdict.the-variants.{Holds, Fails, Refused as Unjudged}
 use Rattle.meaning.specs.declared.Listed.{Listed}
 use Rattle.meaning.specs.declared.Listed.the-variants.{Stored, Refused as Unlisted}
-use Rattle.meaning.specs.Answer.{Told, tellVerdict, tellListed, tellReading}
+use Rattle.meaning.specs.declared.Output.{Output}
+use Rattle.meaning.specs.declared.Output.the-variants.{Written, Refused as Unwritten}
+use Rattle.meaning.specs.Answer.{Told, tellVerdict, tellListed, tellReading, tellOutput}
 
 -- a way of telling from which each answer can be had back tells different answers apart
 apart : {A : Type 0} (tell : A → Told) (back : Told → A) → ((a : A) → back (tell a) ≡ a) → (a b : A) → tell a ≡ tell b → a ≡ b
@@ -29,6 +31,14 @@ listed-unique = apart tellListed (λ t. cond (eqb (t .outcome) 0) (Stored (t .co
     same : (a : Listed) → cond (eqb (tellListed a .outcome) 0) (Stored (tellListed a .count)) (Unlisted (tellListed a .number) (tellListed a .place)) ≡ a
     same (Stored n) = refl
     same (Unlisted k i) = refl
+
+pub output-unique : (a b : Output) → tellOutput a ≡ tellOutput b → a ≡ b
+unfolding tellOutput
+output-unique = apart tellOutput (λ t. cond (eqb (t .outcome) 0) (Written (t .count)) (Unwritten (t .number) (t .place))) same
+  where
+    same : (a : Output) → cond (eqb (tellOutput a .outcome) 0) (Written (tellOutput a .count)) (Unwritten (tellOutput a .number) (tellOutput a .place)) ≡ a
+    same (Written n) = refl
+    same (Unwritten k i) = refl
 
 -- the verdict that was told
 abbrev judgedBack : Told → Verdict
