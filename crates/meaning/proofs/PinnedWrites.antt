@@ -7,18 +7,17 @@ use lib.IntN.{pos, negsuc}
 use lib.Dec.{eqb}
 use lib.ListN.{length, take, replicate}
 use Rattle.meaning.specs.declared.Node.{Node}
-use Rattle.meaning.specs.declared.Reading.{Reading}
 use Rattle.meaning.specs.declared.Reading.the-variants.{Accepted, Refused}
-use Rattle.meaning.specs.declared.Output.{Output}
 use Rattle.meaning.specs.declared.Output.the-variants.{Written, Refused as Unwritten}
+use Rattle.meaning.specs.Block.{ruleForm, blocksOf}
 use Rattle.meaning.specs.Nodes.{nodeBytes, imageOf}
 use Rattle.meaning.specs.Lent.{Lent, lent, nodesLent, readLent}
-use Rattle.meaning.specs.Answer.{writeAnswer, writeImage, tellOutput}
+use Rattle.meaning.specs.Answer.{outputAfter, writeAnswer, writeImage, tellOutput}
 use Rattle.meaning.proofs.Opened.{opened}
 use Rattle.meaning.proofs.ImageBytes.{bankNodes}
-use Rattle.meaning.proofs.Writing.{item, bare, number, nodes, written}
+use Rattle.meaning.proofs.Writing.{item, bare, rule, nodes, written}
 use Rattle.meaning.proofs.Examples.{bank, tells}
-use Rattle.meaning.proofs.PinnedImages.{lone, items, fullBlock, lastBlock}
+use Rattle.meaning.proofs.PinnedImages.{lone, items, fullBlock, lastBlock, plain, tenRules, lastRule}
 
 -- a record that could not be accepted, of 20 different bytes but for the spare ones
 abbrev spread : ℕ → Node
@@ -45,6 +44,11 @@ pub two-blocks : imageOf (item 1 65535 1 ∷ bare 0 0 10 ∷ (items 2 23 ++ (bar
 unfolding opened written items fullBlock lastBlock
 two-blocks = refl
 
+-- so do ten rules, and one more
+pub two-tables : blocksOf ruleForm (replicate 10 plain ++ (rule 2 0 (1 ∷ []) 0 ∷ [])) ≡ tenRules ++ lastRule
+unfolding opened written plain tenRules lastRule
+two-tables = refl
+
 -- column k of these records, without its last entry where k is j
 abbrev column : {A : Type 0} → ℕ → ℕ → List Node → (Node → A) → List A
 column k j ns field = map field (cond (eqb k j) (take (length ns - 1) ns) ns)
@@ -62,7 +66,7 @@ abbrev early : List Node
 early = lone ++ (bare 0 10 20 ∷ [])
 
 -- the records of columns are taken from the first on, each field from its own
-pub columns-held : nodesLent 1 (short 8 (spread 0 ∷ lone)) ≡ (spread 0 ∷ [])
+pub columns-held : nodesLent 2 (short 8 (bare 7 8 9 ∷ spread 0 ∷ lone)) ≡ (bare 7 8 9 ∷ spread 0 ∷ [])
 unfolding opened lone
 columns-held = refl
 
@@ -82,7 +86,7 @@ lent-examples = refl
 abbrev unwritten : ℕ → List ℕ
 unwritten n = replicate n 165
 
--- an image just long enough, one longer, one a byte short; behind 7, a short column and a count of none an image's 12 does not show
+-- an image just long enough, one longer, one a byte short; behind 7, a short column and a count of none an image's 12 does not show; two blocks are 1,024 bytes
 pub answer-examples :
     (writeAnswer 2 (short 8 lone) (unwritten 512)
     ∷ writeAnswer 2 (short 8 lone) (unwritten 515)
@@ -90,8 +94,9 @@ pub answer-examples :
     ∷ writeAnswer 3 (short 8 early) (unwritten 2)
     ∷ writeAnswer 3 (short 3 early) (unwritten 512)
     ∷ writeAnswer 0 (short 8 lone) []
+    ∷ outputAfter Accepted 1024
     ∷ [])
-    ≡ (Written 512 ∷ Written 512 ∷ Unwritten 12 0 ∷ Unwritten 7 2 ∷ Unwritten 12 0 ∷ Unwritten 1 0 ∷ [])
+    ≡ (Written 512 ∷ Written 512 ∷ Unwritten 12 0 ∷ Unwritten 7 2 ∷ Unwritten 12 0 ∷ Unwritten 1 0 ∷ Written 1024 ∷ [])
 unfolding opened written lone
 answer-examples = refl
 
