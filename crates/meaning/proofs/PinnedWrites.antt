@@ -19,7 +19,7 @@ use Rattle.meaning.proofs.Writing.{item, bare, rule, nodes, written}
 use Rattle.meaning.proofs.Examples.{bank, tells}
 use Rattle.meaning.proofs.PinnedImages.{lone, items, fullBlock, lastBlock, plain, tenRules, lastRule}
 
--- a record that could not be accepted, of 20 different bytes but for the spare ones
+-- a record whose bytes are all different; it could not be accepted
 abbrev spread : ℕ → Node
 spread spare =
     record { kind = 1; vkind = 2; name = 1027; parent = 1541; begin = 2055; end = 2569; value = negsuc 1911747572; item = 303108111; spare = spare }
@@ -86,7 +86,7 @@ lent-examples = refl
 abbrev unwritten : ℕ → List ℕ
 unwritten n = replicate n 165
 
--- an image just long enough, one longer, one a byte short; behind 7, a short column and a count of none an image's 12 does not show; two blocks are 1,024 bytes
+-- an image just long enough, one longer, one a byte short; behind 7, a short column and a count of none an image's 12 does not show; the bytes told are those counted
 pub answer-examples :
     (writeAnswer 2 (short 8 lone) (unwritten 512)
     ∷ writeAnswer 2 (short 8 lone) (unwritten 515)
