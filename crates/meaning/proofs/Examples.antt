@@ -150,7 +150,7 @@ unfolding opened written bankRules
 rules-written = refl
 
 -- outcome, number, place, day, offender, count
-abbrev tells : ℕ → ℕ → ℕ → ℕ → ℕ → ℕ → Told
+abbrev pub tells : ℕ → ℕ → ℕ → ℕ → ℕ → ℕ → Told
 tells outcome number place day offender count =
     record { outcome = outcome; number = number; place = place; day = day; offender = offender; count = count }
 

@@ -44,9 +44,10 @@ pub mod Opened
 pub mod ImageBytes
 pub mod Writing
 pub mod Examples
+pub mod PinnedImages
+pub mod PinnedWrites
 pub mod Theorems
 pub mod Working
-pub mod PinnedImages
 pub mod PinnedNodes
 pub mod PinnedRules
 pub mod PinnedDays

@@ -7,6 +7,7 @@ use Rattle.meaning.specs.Answer.{readVerdict, readSlice, sliceAnswer, sl
 use Rattle.meaning.proofs.Asking.{Asked, onRule, onSlice, onChanges, Answered, answer, quickVerdict, quickChanges, quickAnswer, answer-quick}
 use Rattle.meaning.proofs.Pinning.{Pin, wanted, Right, readAnswer, Posed, pinTo, Held}
 use Rattle.meaning.proofs.Examples.{bank-examples, edge-examples, slip-examples, bank-listed, rules-listed, told-examples}
+use Rattle.meaning.proofs.PinnedWrites.{record-bytes, bank-image, one-block, two-blocks, two-tables, columns-held, lent-examples, answer-examples, image-examples, told-outputs}
 use Rattle.meaning.proofs.Theorems.{nodes-refused, rules-refused, verdict-refused, slice-refused, changes-refused, nothing-changes, enough-days, holds-on-days, fails-on-days, holds-in-windows, fails-in-windows, which-windows}
 
 -- To work the examples out takes most of a check's time, so a definition that already breaks one of these is refused before it.
@@ -30,6 +31,16 @@ laws-first =
     let law = bank-listed in
     let law = rules-listed in
     let law = told-examples in
+    let law = record-bytes in
+    let law = bank-image in
+    let law = one-block in
+    let law = two-blocks in
+    let law = two-tables in
+    let law = columns-held in
+    let law = lent-examples in
+    let law = answer-examples in
+    let law = image-examples in
+    let law = told-outputs in
     tt
 
 -- a list of examples may be worked out quickly
