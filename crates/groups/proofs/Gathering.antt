@@ -65,53 +65,66 @@ module _ (doc : Doc) (r : Rule) where
         passes = both (inRow doc r v f) (eqb (numberOf doc v) n) (u .row) (eq-eqb (numberOf doc v) n (u .number));
       })
 
+-- the class of a key, of n records, tells the item number
+module _ (doc : Doc) (r : Rule) (n : ℕ) (keys groups : List ℕ) (all : n ≡ doc .size) (few : n ≤ limit) (s : Keys doc r keys) (g : Groups doc groups)
+    (v : ℕ) (y : selected doc r v ≡ true) where
+  here : v < doc .size
+  here = selected-here doc r v y
+
+  pub class-low : getD groups v 0 < limit
+  class-low = omega (arith, g .low v here)
+
+  -- equal classes are equal numbers
+  number-same : (u : ℕ) → selected doc r u ≡ true → eqb (numberOf doc u) (numberOf doc v) ≡ eqb (getD groups u 0) (getD groups v 0)
+  number-same u z = g .same u v (selected-version doc r u z) (selected-version doc r v y)
+
+  -- x is the class of f
+  module _ (f : ℕ) (h : f < doc .size) (x : ℕ) (each : x ≡ classAt groups n (getD keys f 0)) where
+    -- it is that of v: the key of f is a version of the number of v
+    classed-under : x ≡ getD groups v 0 → Under doc r (numberOf doc v) f
+    classed-under e =
+        let u = getD keys f 0 in
+        ⊎-elim
+        (λ (past : n ≤ u). absurd (omega (arith, each, class-none groups n u u refl past, class-low)))
+        (λ (l : u < n).
+        let row : inRow doc r u f ≡ true = sym (s .key u f (omega arith) h) ∙ eq-eqb u u refl in
+        let same : getD groups u 0 ≡ getD groups v 0 = class-here groups n u u refl l ∙ sym each ∙ e in
+        record { of = u; row = row; number = eqb-true (numberOf doc u) (numberOf doc v) (number-same u (row-selected doc r u f row) ∙ eq-eqb (getD groups u 0) (getD groups v 0) same) })
+        (le-or-lt n u)
+
+    under-classed : Under doc r (numberOf doc v) f → x ≡ getD groups v 0
+    under-classed w =
+        let u = w .of in
+        let z = row-selected doc r u f (w .row) in
+        let l = selected-here doc r u z in
+        let key : getD keys f 0 ≡ u = eqb-true (getD keys f 0) u (s .key u f l h ∙ w .row) in
+        each ∙ ap (classAt groups n) key ∙ sym (class-here groups n u u refl (omega arith))
+        ∙ eqb-true (getD groups u 0) (getD groups v 0) (sym (number-same u z) ∙ eq-eqb (numberOf doc u) (numberOf doc v) (w .number))
+
+    pub class-under : eqb x (getD groups v 0) ≡ inGroup doc r (numberOf doc v) f
+    class-under =
+        tests-same (eqb x (getD groups v 0)) (inGroup doc r (numberOf doc v) f)
+        (λ t. under-group doc r (numberOf doc v) f (classed-under (simp says at t)))
+        (λ t. eq-eqb x (getD groups v 0) (under-classed (group-under doc r (numberOf doc v) f t)))
+
 -- `classes` are the classes of the keys
 module _ (doc : Doc) (r : Rule) (kinds keys groups classes last lower : List ℕ) (k : Lends (doc .size) (doc .kind) 0 kinds) (few : length kinds ≤ limit)
     (s : Keys doc r keys) (g : Groups doc groups) (each : (f : ℕ) → f < length kinds → getD classes f 0 ≡ classAt groups (length kinds) (getD keys f 0))
     (c : Chained limit kinds classes 2 (length kinds) last lower) where
   module _ (v : ℕ) (y : selected doc r v ≡ true) where
-    here : v < doc .size
-    here = selected-here doc r v y
-
     low : getD groups v 0 < limit
-    low = omega (arith, g .low v here, k .size)
-
-    -- equal classes are equal numbers
-    number-same : (u : ℕ) → selected doc r u ≡ true → eqb (numberOf doc u) (numberOf doc v) ≡ eqb (getD groups u 0) (getD groups v 0)
-    number-same u z = g .same u v (selected-version doc r u z) (selected-version doc r v y)
-
-    -- f has the class of v: its key is a version of the number of v
-    classed-under : (f : ℕ) → f < doc .size → getD classes f 0 ≡ getD groups v 0 → Under doc r (numberOf doc v) f
-    classed-under f h e =
-        let n = k .size in
-        let u = getD keys f 0 in
-        ⊎-elim
-        (λ (past : length kinds ≤ u). absurd (omega (arith, each f (omega arith), class-none groups (length kinds) u u refl past, low)))
-        (λ (l : u < length kinds).
-        let row : inRow doc r u f ≡ true = sym (s .key u f (omega arith) h) ∙ eq-eqb u u refl in
-        let same : getD groups u 0 ≡ getD groups v 0 = class-here groups (length kinds) u u refl l ∙ sym (each f (omega arith)) ∙ e in
-        record { of = u; row = row; number = eqb-true (numberOf doc u) (numberOf doc v) (number-same u (row-selected doc r u f row) ∙ eq-eqb (getD groups u 0) (getD groups v 0) same) })
-        (le-or-lt (length kinds) u)
-
-    under-classed : (f : ℕ) → f < doc .size → Under doc r (numberOf doc v) f → getD classes f 0 ≡ getD groups v 0
-    under-classed f h w =
-        let n = k .size in
-        let u = w .of in
-        let z = row-selected doc r u f (w .row) in
-        let l = selected-here doc r u z in
-        let key : getD keys f 0 ≡ u = eqb-true (getD keys f 0) u (s .key u f l h ∙ w .row) in
-        each f (omega arith) ∙ ap (classAt groups (length kinds)) key ∙ sym (class-here groups (length kinds) u u refl (omega arith))
-        ∙ eqb-true (getD groups u 0) (getD groups v 0) (sym (number-same u z) ∙ eq-eqb (numberOf doc u) (numberOf doc v) (w .number))
+    low = class-low doc r (length kinds) keys groups (k .size) few s g v y
 
     -- the chain of the class is what is under the number
     under-number : (f : ℕ) → f < doc .size → keyed kinds classes 2 (getD groups v 0) f ≡ inGroup doc r (numberOf doc v) f
     under-number f h =
+        let same = class-under doc r (length kinds) keys groups (k .size) few s g v y f h (getD classes f 0) (each f (omega (arith, k .size))) in
         tests-same (keyed kinds classes 2 (getD groups v 0) f) (inGroup doc r (numberOf doc v) f)
-        (λ t. under-group doc r (numberOf doc v) f (classed-under f h ((simp says at t) .1)))
+        (λ t. sym same ∙ and-r (eqb (getD kinds f 0) 2) (eqb (getD classes f 0) (getD groups v 0)) t)
         (λ t.
         let w = group-under doc r (numberOf doc v) f t in
         let kind : doc .kind f ≡ 2 = simp says at (row-version doc r (w .of) f (w .row)) in
-        simp says (k .at f ∙ kind, under-classed f h w))
+        both (eqb (getD kinds f 0) 2) (eqb (getD classes f 0) (getD groups v 0)) (eq-eqb (getD kinds f 0) 2 (k .at f ∙ kind)) (same ∙ t))
 
   pub gathered : Gathered doc r groups last lower
   gathered =

@@ -83,7 +83,7 @@ pub fn group(kind: &[u8], parent: &[u16], item: &[u32]) -> [u16; LIMIT]
 }
 
 // The class of the version v, of n; LIMIT, which has no chain, where v is none. Cost: one look.
-fn class_at(groups: &[u16], n: usize, v: u16) -> u16
+pub fn class_at(groups: &[u16], n: usize, v: u16) -> u16
     requires { ⌜ n ≤ length (now groups) ⌝ }
     ensures { λ r. ⌜ r ≡ classAt (now (groups .entry)) n v ⌝ }
 {
@@ -95,7 +95,7 @@ fn class_at(groups: &[u16], n: usize, v: u16) -> u16
 }
 
 // For each of n records the class of its key. Cost: one pass over them.
-fn class_keys(key: &[u16], groups: &[u16], n: usize) -> [u16; LIMIT]
+pub fn class_keys(key: &[u16], groups: &[u16], n: usize) -> [u16; LIMIT]
     requires { ⌜ (n ≤ limit) × (n ≤ length (now key)) × (n ≤ length (now groups)) ⌝ }
     ensures { λ r. ⌜ (length r ≡ limit) × ((f : ℕ) → f < n → getD r f 0 ≡ classAt (now (groups .entry)) n (getD (now (key .entry)) f 0)) ⌝ }
 {

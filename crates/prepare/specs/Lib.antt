@@ -4,3 +4,4 @@ pub mod Rows
 pub mod Keys
 pub mod Standing
 pub mod Rowed
+pub mod Sifts

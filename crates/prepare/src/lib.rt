@@ -13,6 +13,7 @@ ghost use Rattle.columns.specs.Judgeable.{Judgeable};
 ghost use Rattle.marks.specs.Marks.{Marks};
 ghost use Rattle.prepare.specs.Rows.{Rows};
 ghost use Rattle.prepare.specs.Rowed.{Rowed};
+ghost use Rattle.prepare.specs.Sifts.{Sifts};
 
 pub mod select; // select.rt: the versions that a rule selects
 pub mod fields; // fields.rt: the version to which each field version belongs
@@ -27,6 +28,54 @@ pub struct Prepared {
     pub last: [u16; LIMIT],
     pub lower: [u16; LIMIT],
     pub read: [u8; LIMIT],
+}
+
+// What a rule picks out of a document: a mark on each version that it selects, for each field version that matters to its kind the version in
+// whose row it is, LIMIT for every other record, and a mark on each version that it reads.
+pub struct Sifted {
+    pub chosen: [u8; LIMIT],
+    pub row: [u16; LIMIT],
+    pub read: [u8; LIMIT],
+}
+
+// What the rule picks out. Cost: four passes over the records, one of them with a climb of at most eight steps from each version.
+pub fn sift(
+    kind: &[u8],
+    vkind: &[u8],
+    name: &[u16],
+    parent: &[u16],
+    value: &[i32],
+    rule: Rule,
+) -> Sifted
+    requires { ⌜ (rule .steps ≤ 8) × ((doc : Doc) × Tree doc (now kind) (now name) (now parent) × Values doc (now kind) (now vkind) (now value) × Judgeable doc) ⌝ }
+    ensures { λ r. ⌜ ((doc : Doc) → Tree doc (now (kind .entry)) (now (name .entry)) (now (parent .entry)) → Values doc (now (kind .entry)) (now (vkind .entry)) (now (value .entry)) → Sifts doc rule r) ⌝ }
+{
+    let chosen = select::mark_selected(kind, name, parent, rule);
+    let holder = fields::holders(kind, name, parent, rule);
+    let read = reads::mark_by(&chosen, &holder, kind.len());
+    let row = rows::keys(vkind, value, &chosen, &holder, rule);
+    Sifted { chosen, row, read }
+}
+
+// What the rule picks out to which a reference refers; what the rule itself does if it is none.
+pub fn sift_referred(
+    kind: &[u8],
+    vkind: &[u8],
+    name: &[u16],
+    parent: &[u16],
+    value: &[i32],
+    own: Sifted,
+    q: Rule,
+    r: Rule,
+) -> Sifted
+    requires { ⌜ (isReference r ≡ true → q .steps ≤ 8) × ((doc : Doc) × Tree doc (now kind) (now name) (now parent) × Values doc (now kind) (now vkind) (now value) × Judgeable doc) ⌝ }
+    ensures referred { λ x. ⌜ ((doc : Doc) → Tree doc (now (kind .entry)) (now (name .entry)) (now (parent .entry)) → Values doc (now (kind .entry)) (now (vkind .entry)) (now (value .entry)) → isReference r ≡ true → Sifts doc q x) ⌝ }
+    ensures some { λ x. ⌜ ((doc : Doc) → Tree doc (now (kind .entry)) (now (name .entry)) (now (parent .entry)) → Values doc (now (kind .entry)) (now (vkind .entry)) (now (value .entry)) → Sifts doc r own → ((p : Rule) × Sifts doc p x)) ⌝ }
+{
+    if r.kind != 3 {
+        return own;
+    }
+    sift(kind, vkind, name, parent, value, q)
 }
 
 // The rule prepared. Cost: six passes over the records, one of them with a climb of at most eight steps from each version.
