@@ -1,0 +1,2 @@
+-- The laws behind the survey.
+pub mod Finding
