@@ -1,4 +1,6 @@
-// The change days of a rule, as marks on days.
+// The change days of a rule: as marks on days, and along two orders of the versions.
+pub mod merging; // merging.rt: counted and stored along two orders
+
 use numbers::index;
 ghost use mathlib.Core.Path.{_≡_};
 ghost use mathlib.Core.Bool.{Bool, true, _&&_};

@@ -77,7 +77,7 @@ pub fn next_marked(marks: &[u8], from: usize, to: usize) -> usize
 }
 
 // How many numbers from `from` on and below `to` are marked. Cost: a look at each.
-fn count_marked(marks: &[u8], from: usize, to: usize) -> usize
+pub fn count_marked(marks: &[u8], from: usize, to: usize) -> usize
     requires { ⌜ (to ≤ length (now marks)) × (from ≤ to) ⌝ }
     ensures { λ r. ⌜ r ≡ length (pick (marked (now (marks .entry))) from (to - from)) ⌝ }
 {
