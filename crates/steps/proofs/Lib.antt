@@ -4,3 +4,8 @@ pub mod Grouping
 pub mod Windowed
 pub mod Reached
 pub mod Skipping
+pub mod Stacking
+pub mod Raising
+pub mod Levelling
+pub mod Placing
+pub mod Settling

@@ -19,11 +19,13 @@ ghost use Rattle.columns.specs.Judgeable.{Judgeable};
 ghost use Rattle.marks.specs.Marks.{Marks};
 ghost use Rattle.prepare.specs.Holders.{Skips};
 ghost use Rattle.steps.specs.Reaching.{wrongAfter, Reaches, Ready};
+ghost use Rattle.steps.specs.Places.{Closing};
 
+mod levels; // levels.rt: how high field versions stand in the stacks, and the bounds
+mod places; // places.rt: chains along an order of the field versions, and what is read off at its places
+mod stacks; // stacks.rt: the last number before a place that lies below a bound
+mod sweep; // sweep.rt: searches along an order of the field versions
 mod walks; // walks.rt: two walks down the field versions under one item number
-
-// What stands for the reach of a value that is no number: it is wrong in every window.
-const EVER: u16 = 65535;
 
 // The day before which a window must begin for record f to offend, 0 where none can. Cost: two looks for each field version under its item number.
 fn reach_of(
@@ -47,7 +49,7 @@ fn reach_of(
         return 0;
     }
     if vkind[f] != 1 {
-        return EVER;
+        return places::EVER;
     }
     let past = index(last[index(group[v])]);
     let day = begin[f];
@@ -102,6 +104,53 @@ pub fn reaches(
         f += 1;
     }
     out
+}
+
+// The same, by the versions in the order of their ends. Cost: four searches for each record, each of some two looks for each doubling of those under
+// its item number, and a fixed number of passes over the records and the order.
+pub fn reaches_swept(
+    vkind: &[u8],
+    value: &[i32],
+    begin: &[u16],
+    end: &[u16],
+    key: &[u16],
+    group: &[u16],
+    closes: &[u16],
+    low: i32,
+    high: i32,
+) -> [u16; LIMIT]
+    requires { ⌜ ((doc : Doc) × (r : Rule) × Closing doc r (now vkind) (now value) (now begin) (now end) (now key) (now group) (now closes) × Judgeable doc) ⌝ }
+    ensures { λ x. ⌜ ((doc : Doc) (r : Rule) → Closing doc r (now (vkind .entry)) (now (value .entry)) (now (begin .entry)) (now (end .entry)) (now (key .entry)) (now (group .entry)) (now (closes .entry)) → Judgeable doc → isSequenced r ≡ false → low ≡ r .low → high ≡ r .high → Reaches doc r x) ⌝ }
+{
+    let links = places::thread(key, group, closes, vkind.len());
+    let last = links.last;
+    let prior = links.lower;
+    let past = places::lasts(key, group, &last, vkind.len());
+    let start = sweep::sought(
+        levels::ENDS,
+        vkind,
+        value,
+        begin,
+        end,
+        closes,
+        &prior,
+        &past,
+        begin,
+        low,
+        high,
+    );
+    sweep::settle(
+        vkind,
+        value,
+        begin,
+        end,
+        key,
+        closes,
+        &prior,
+        &start,
+        low,
+        high,
+    )
 }
 
 // The mark of a reach: 1 above 0. Cost: one test.

@@ -8,7 +8,7 @@ ghost use lib.ListN.{length, getD};
 ghost use Rattle.steps.specs.Greatest.{Chain, Greatest, greater, over, stepsOut, stepsFrom};
 
 // The greater of two days. Cost: one test.
-fn larger(a: u16, b: u16) -> u16
+pub fn larger(a: u16, b: u16) -> u16
     ensures { λ r. ⌜ r ≡ greater a b ⌝ }
 {
     if a < b {

@@ -24,7 +24,7 @@ returns : tie.Need-returns
 returns c =
     let i = c .before in
     let p = i .before .before .before .before .before .before .before .before .before .pre in
-    λ doc r s ok flat lo hi a l. reach-none doc r _ _ _ _ _ _ _ _ s _ (p .0) _ (i .index .ensures) (c .if1 .taken) a
+    λ doc r s ok flat lo hi a l. reach-none doc r _ _ (s .vkind) (s .rows) _ (p .0) _ (i .index .ensures) (c .if1 .taken) a
 
 shared-slice-read-if2 : tie.Need-shared-slice-read-if2
 shared-slice-read-if2 c = search needs
@@ -34,7 +34,7 @@ returns-2 c =
     let e = c .before .before in
     let i = e .before in
     let p = i .before .before .before .before .before .before .before .before .before .pre in
-    λ doc r s ok flat lo hi a l. reach-text doc r _ _ _ _ _ _ _ _ s _ (p .0) _ (i .index .ensures) (e .if1 .left) (c .if2 .taken) _ (search needs) a l
+    λ doc r s ok flat lo hi a l. reach-text doc r _ _ (s .vkind) (s .rows) _ (p .0) _ (i .index .ensures) (e .if1 .left) (c .if2 .taken) _ (search needs) a l
 
 mul-index-2 : tie.Need-mul-index-2
 mul-index-2 c = search needs
