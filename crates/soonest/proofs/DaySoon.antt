@@ -1,0 +1,98 @@
+-- A sequenced rule of each kind: what the passes promise of each part of its offence is that no version offends at an earlier place.
+use mathlib.Core.Path.{_≡_, sym, _∙_}
+use mathlib.Core.Logic.{⊎-elim}
+use mathlib.Core.Bool.{true}
+use mathlib.Core.List.{List}
+use Prim.Native.Nat.{ℕ, _≤_, _<_}
+use native.Mathlib.Omega.{arith}
+use lib.IntN.{pos}
+use Rattle.meaning.specs.declared.Rule.{Rule}
+use Rattle.meaning.specs.Document.{Doc}
+use Rattle.meaning.specs.Rules.{isSequenced}
+use Rattle.meaning.specs.Select.{selected, valued}
+use Rattle.meaning.specs.Day.{offends}
+use Rattle.meaning.specs.Window.{meets}
+use Rattle.meaning.proofs.Basics.{never}
+use Rattle.columns.specs.Judgeable.{Judgeable}
+use Rattle.marks.specs.Marks.{Marks}
+use Rattle.values.specs.Represents.{Represents}
+use Rattle.prepare.specs.Rows.{wants, inRow}
+use Rattle.prepare.specs.Keys.{Keys}
+use Rattle.passes.specs.Passes.{at, ByLeast}
+use Rattle.places.specs.declared.Places.{Places}
+use Rattle.places.specs.Placing.{windowAt}
+use Rattle.soonest.specs.Soon.{offendsAt, Soon}
+use Rattle.soonest.specs.Lined.{Lined}
+use Rattle.crowds.specs.Crowds.{ByMany}
+use Rattle.soonest.specs.Parts.{ByTwice, ByShared, ByUnheld, ByFew}
+use Rattle.soonest.proofs.Nested.{meets-nested}
+use Rattle.soonest.proofs.DayOffences.{key-offence, unique-offence, reference-offence, cardinality-offence, datatype-offence}
+use Rattle.soonest.proofs.Sweeping.{row-is, some-soon, twice-soon, shared-soon, few-soon, many-soon, lacks-soon, unheld-soon}
+
+-- where each offence is at D or later, D is soon enough
+pub soon-from : (doc : Doc) (q r : Rule) (places : Places) (D : ℕ)
+    → ((k v : ℕ) → k < places .count → offendsAt doc (meets doc (windowAt places k)) q r v ≡ true → D ≤ k) → Soon doc q r places D
+unfolding Soon
+soon-from doc q r places D late k v h l = never (offendsAt doc (meets doc (windowAt places k)) q r v) (λ e. omega (arith, late k v h e))
+
+module _ (doc : Doc) (q r : Rule) (places : Places) (order closes lo hi : List ℕ) (lined : Lined doc places order closes lo hi) (judgeable : Judgeable doc)
+    (sequenced : isSequenced r ≡ true) (rows : List ℕ) (keys : Keys doc r rows) (D : ℕ) where
+  -- an offence as on a day
+  on-day : ((k v : ℕ) → k < places .count → offends doc (meets doc (windowAt places k)) q r v ≡ true → D ≤ k) → Soon doc q r places D
+  unfolding offendsAt
+  on-day late = soon-from doc q r places D (λ k v h e. late k v h (rw sequenced at e))
+
+  module _ (reps : List ℕ) (represents : Represents doc reps) where
+    -- two values in a row, or one of two rows
+    module _ (twice : ByTwice order rows lo hi (doc .size) D) (shared : ByShared order rows reps rows lo hi (doc .size) D) where
+      rows-tell : (u v f g : ℕ) → inRow doc r u f ≡ true → inRow doc r v g ≡ true → at rows f ≡ at rows g → u ≡ v
+      rows-tell u v f g a b e = sym (row-is doc r rows keys u f a) ∙ e ∙ row-is doc r rows keys v g b
+
+      pub unique-days : r .kind ≡ 2 → Soon doc q r places D
+      unique-days kind =
+          on-day (λ k v h e.
+          ⊎-elim
+          (twice-soon doc places order closes lo hi lined k h r rows keys D twice)
+          (shared-soon doc places order closes lo hi lined k h r rows keys reps represents (λ u. u) rows rows-tell D shared)
+          (unique-offence doc (meets doc (windowAt places k)) q r v e sequenced kind))
+
+      pub key-days : (chosen own : List ℕ) → Marks (selected doc r) (doc .size) chosen → ((x : ℕ) → x < doc .size → at own x ≡ x)
+          → ByFew order chosen own rows lo hi (doc .size) 1 D → r .kind ≡ 1 → Soon doc q r places D
+      key-days chosen own marks numbers few kind =
+          on-day (λ k v h e.
+          ⊎-elim
+          (lacks-soon doc places order closes lo hi lined k h r rows keys chosen own marks numbers D few)
+          (⊎-elim
+          (twice-soon doc places order closes lo hi lined k h r rows keys D twice)
+          (shared-soon doc places order closes lo hi lined k h r rows keys reps represents (λ u. u) rows rows-tell D shared))
+          (key-offence doc (meets doc (windowAt places k)) q r v e sequenced kind))
+
+    -- two values in a row, of this rule or of the one that it refers to, or a value that no row of that one has
+    pub reference-days : (others : List ℕ) → Keys doc q others → ((f : ℕ) → wants doc q f ≡ valued doc f) → ByTwice order rows lo hi (doc .size) D
+        → ByTwice order others lo hi (doc .size) D → ByUnheld order rows others reps lo hi (doc .size) D → r .kind ≡ 3 → Soon doc q r places D
+    reference-days others other-keys wanted twice held-twice unheld kind =
+        on-day (λ k v h e.
+        ⊎-elim
+        (twice-soon doc places order closes lo hi lined k h r rows keys D twice)
+        (⊎-elim
+        (twice-soon doc places order closes lo hi lined k h q others other-keys D held-twice)
+        (unheld-soon doc places order closes lo hi lined k h r q rows others reps keys other-keys represents D unheld))
+        (reference-offence doc (meets doc (windowAt places k)) q r v e sequenced kind wanted (meets-nested doc judgeable (windowAt places k) q)))
+
+  -- too few or too many in a row
+  pub cardinality-days : (chosen own : List ℕ) → Marks (selected doc r) (doc .size) chosen → ((x : ℕ) → x < doc .size → at own x ≡ x) → (low high : ℕ)
+      → pos low ≡ r .low → pos high ≡ r .high → ByFew order chosen own rows lo hi (doc .size) low D → ByMany rows lo hi (doc .size) high D → r .kind ≡ 4
+      → Soon doc q r places D
+  cardinality-days chosen own marks numbers low high l m few many kind =
+      on-day (λ k v h e.
+      let s = cardinality-offence doc (meets doc (windowAt places k)) q r v e sequenced kind low high l m in
+      ⊎-elim
+      (few-soon doc places order closes lo hi lined k h r rows keys chosen own marks numbers (s .v) (s .chosen) low D few (s .here))
+      (many-soon doc places order closes lo hi lined k h r rows keys chosen own marks numbers (s .v) (s .chosen) high D many)
+      (s .outside))
+
+  -- a wrong value
+  pub datatype-days : ByLeast order rows lo hi (doc .size) D → 5 ≤ r .kind → Soon doc q r places D
+  datatype-days least kind =
+      on-day (λ k v h e.
+      some-soon doc places order closes lo hi lined k h r rows keys D least (datatype-offence doc (meets doc (windowAt places k)) q r v e sequenced kind))

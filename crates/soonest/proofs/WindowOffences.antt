@@ -1,0 +1,434 @@
+-- What an offender in a window comes to, by the kind of its rule.
+use mathlib.Core.Path.{_≡_, refl, sym, _∙_, ap}
+use mathlib.Core.Logic.{_⊎_, inl, inr, ⊎-elim}
+use mathlib.Core.Bool.{Bool, true, false, _&&_, not, and-false}
+use mathlib.Core.List.{List}
+use Prim.Native.Nat.{ℕ, zero, suc, _≤_, _<_}
+use native.Mathlib.Omega.{arith}
+use lib.IntN.{pos}
+use lib.Dec.{leb, eqb}
+use lib.ListN.{getD}
+use borrow.Author.Tests.{leb-false, ltb-true, not-true}
+use Rattle.meaning.specs.declared.Found.{Found}
+use Rattle.meaning.specs.declared.Found.the-variants.{At, Nothing}
+use Rattle.meaning.specs.declared.Rule.{Rule}
+use Rattle.meaning.specs.Walk.{any, count, first}
+use Rattle.meaning.specs.Document.{Doc, numberOf}
+use Rattle.meaning.specs.Rules.{byKind, isSequenced}
+use Rattle.meaning.specs.Select.{selected, valued, sameValue, within, present, gives, has}
+use Rattle.meaning.specs.Window.{Window, meets, valueless, shares, sharedIn, keyIn, referenceIn, under, counts, cardinalityIn, breaksIn, offendsIn}
+use Rattle.meaning.proofs.Basics.{went, clear, and-l, and-r, both, and-else, or-cases}
+use Rattle.meaning.proofs.Walks.{Passes, Lowest, any-some, any-true, any-none, first-found, first-nothing}
+use Rattle.meaning.proofs.Says.{says}
+use Rattle.meaning.proofs.Selects.{version-here, selected-here}
+use Rattle.columns.specs.Judgeable.{Judgeable}
+use Rattle.prepare.specs.Rows.{wants, inRow}
+use Rattle.groups.specs.Groups.{inGroup}
+use Rattle.groups.proofs.Gathering.{row-version, row-selected, group-under, under-group}
+use Rattle.steps.specs.Reaching.{wrongAfter, Reaches}
+use Rattle.steps.proofs.Windowed.{offends-in}
+use Rattle.soonest.proofs.Offences.{Lacks, Shared, Unheld, Some}
+
+-- to a non-sequenced rule the valued field versions matter
+pub windowed-wants : (doc : Doc) (r : Rule) → isSequenced r ≡ false → (f : ℕ) → wants doc r f ≡ valued doc f
+unfolding wants
+windowed-wants doc r flat f = rw flat
+
+module _ (doc : Doc) (p : ℕ → Bool) (r : Rule) (w : (f : ℕ) → wants doc r f ≡ valued doc f) (v : ℕ) where
+  -- what a selected version gives is a present one of its row
+  gives-row : selected doc r v ≡ true → (f : ℕ) → gives doc p r v f ≡ true → (inRow doc r v f ≡ true) × (p f ≡ true)
+  unfolding gives inRow
+  gives-row s f e = let t = simp says at e in (simp says ((s, t .0 .0), w f ∙ t .1), t .0 .1)
+
+  -- and the other way round
+  row-gives : (f : ℕ) → inRow doc r v f ≡ true → p f ≡ true → gives doc p r v f ≡ true
+  unfolding gives inRow
+  row-gives f e h = let t = simp says at e in simp says ((t .0 .1, h), sym (w f) ∙ t .1)
+
+-- a present version is selected, and there
+present-chosen : (doc : Doc) (p : ℕ → Bool) (r : Rule) (v : ℕ) → present doc p r v ≡ true → (selected doc r v ≡ true) × (p v ≡ true)
+unfolding present
+present-chosen doc p r v e = simp says at e
+
+-- a field version stands below the count
+row-below : (doc : Doc) (r : Rule) (v f : ℕ) → inRow doc r v f ≡ true → f < doc .size
+row-below doc r v f e = version-here doc f (row-version doc r v f e)
+
+module _ (doc : Doc) (p : ℕ → Bool) (r : Rule) (flat : isSequenced r ≡ false) (v : ℕ) (s : present doc p r v ≡ true) where
+  -- a version without a value
+  lacks : valueless doc p r v ≡ true → Lacks doc p r
+  unfolding present valueless
+  lacks e =
+      let t = simp says at s in
+      let none = simp says at e in
+      record {
+        v = v;
+        chosen = t .0;
+        here = t .1;
+        none =
+            λ f i h.
+            clear (row-gives doc p r (windowed-wants doc r flat) v f i h) (none f (omega arith) (omega (arith, row-below doc r v f i)));
+      }
+
+  -- a version with a value that one of another item number has
+  shared : sharedIn doc p r v ≡ true → Shared doc p r (numberOf doc)
+  unfolding present sharedIn shares has
+  shared e =
+      let w = windowed-wants doc r flat in
+      let other = any-true _ 0 v e in
+      let u = other .0 in
+      let t = simp says at (other .1 .passes) in
+      let one = any-true _ 0 (doc .size) (t .1 .1) in
+      let f = one .0 in
+      let i = simp says at (one .1 .passes) in
+      let two = any-true _ 0 (doc .size) (i .1) in
+      let g = two .0 in
+      let j = simp says at (two .1 .passes) in
+      let mine = gives-row doc p r w v (present-chosen doc p r v s .0) f (i .0) in
+      let theirs = gives-row doc p r w u (t .1 .0 .0) g (j .0) in
+      record {
+        u = v;
+        v = u;
+        f = f;
+        g = g;
+        apart = λ n. t .0 (sym n);
+        first = mine .0;
+        second = theirs .0;
+        first-here = mine .1;
+        second-here = theirs .1;
+        same = j .1;
+      }
+
+  -- a version with a value that none of the other rule has
+  unheld : (q : Rule) → ((f : ℕ) → wants doc q f ≡ valued doc f) → ((u g : ℕ) → inRow doc q u g ≡ true → p g ≡ true → p u ≡ true)
+      → referenceIn doc p q r v ≡ true → Unheld doc p r q
+  unfolding present referenceIn has
+  unheld q w held e =
+      let one = any-true _ 0 (doc .size) e in
+      let f = one .0 in
+      let i = simp says at (one .1 .passes) in
+      let mine = gives-row doc p r (windowed-wants doc r flat) v (present-chosen doc p r v s .0) f (i .0) in
+      record {
+        v = v;
+        f = f;
+        in-row = mine .0;
+        here = mine .1;
+        none =
+            λ u g j h same.
+            let chosen = row-selected doc q u g j in
+            clear same
+            (i .1 u (omega arith) (omega (arith, selected-here doc q u chosen)) (chosen, held u g j h) g (omega arith) (omega (arith, row-below doc q u g j))
+            (row-gives doc p q w u g j h));
+      }
+
+-- An offender of a key, a unique rule and a reference.
+module _ (doc : Doc) (p : ℕ → Bool) (q r : Rule) (flat : isSequenced r ≡ false) (v : ℕ) (bad : offendsIn doc p q r v ≡ true) where
+  -- the offence by the kind
+  broken : (k : ℕ) → r .kind ≡ k → breaksIn doc p q r v k ≡ true
+  unfolding offendsIn
+  broken k e = ap (breaksIn doc p q r v) (sym e) ∙ bad
+
+  -- a key: a version lacks a value, or two of different item numbers share one
+  pub key-offence : r .kind ≡ 1 → Lacks doc p r ⊎ Shared doc p r (numberOf doc)
+  unfolding byKind breaksIn keyIn
+  key-offence k =
+      let b = broken 1 k in
+      let here = and-l (present doc p r v) _ b in
+      ⊎-elim (λ e. inl (lacks doc p r flat v here e)) (λ e. inr (shared doc p r flat v here e))
+      (or-cases (valueless doc p r v) (sharedIn doc p r v) (and-r (present doc p r v) _ b))
+
+  -- a unique rule: two share one
+  pub unique-offence : r .kind ≡ 2 → Shared doc p r (numberOf doc)
+  unfolding byKind breaksIn
+  unique-offence k = let b = broken 2 k in shared doc p r flat v (and-l (present doc p r v) _ b) (and-r (present doc p r v) _ b)
+
+  -- a reference: a value that the rule referred to, which takes the valued ones, has in no present row
+  pub reference-offence : ((f : ℕ) → wants doc q f ≡ valued doc f) → ((u g : ℕ) → inRow doc q u g ≡ true → p g ≡ true → p u ≡ true)
+      → r .kind ≡ 3 → Unheld doc p r q
+  unfolding byKind breaksIn
+  reference-offence w held k = let b = broken 3 k in unheld doc p r flat v (and-l (present doc p r v) _ b) q w held (and-r (present doc p r v) _ b)
+
+-- what passes a weaker test is no fewer
+pub count-within : (f g : ℕ → Bool) → ((k : ℕ) → f k ≡ true → g k ≡ true) → (i n : ℕ) → count f i n ≤ count g i n
+unfolding count
+count-within f g h i zero = omega arith
+count-within f g h i (suc n) =
+    let rest = count-within f g h (suc i) n in
+    ⊎-elim
+    (λ (y : f i ≡ true).
+    let a : count f i (suc n) ≡ suc (count f (suc i) n) = rw y in
+    let b : count g i (suc n) ≡ suc (count g (suc i) n) = rw (h i y) in
+    omega arith)
+    (λ (z : f i ≡ false).
+    let a : count f i (suc n) ≡ count f (suc i) n = rw z in
+    ⊎-elim
+    (λ (y : g i ≡ true). let b : count g i (suc n) ≡ suc (count g (suc i) n) = rw y in omega arith)
+    (λ (x : g i ≡ false). let b : count g i (suc n) ≡ count g (suc i) n = rw x in omega arith)
+    (went (g i)))
+    (went (f i))
+
+module _ (f : ℕ → Bool) where
+  -- what is counted is there
+  pub counted-one : (i n : ℕ) → 0 < count f i n → (k : ℕ) × Passes f i n k
+  unfolding count
+  counted-one i zero h = absurd (omega arith)
+  counted-one i (suc n) h =
+      ⊎-elim
+      (λ y. (i, record { from = omega arith; below = omega arith; passes = y }))
+      (λ z. let r = counted-one (suc i) n (rw z at h) in (r .0, record { from = omega (arith, r .1 .from); below = omega (arith, r .1 .below); passes = r .1 .passes }))
+      (went (f i))
+
+  -- two that pass, the one below the other
+  pub record Pair (i n : ℕ) : Type 0 where
+    pub one : ℕ
+    pub two : ℕ
+    pub order : one < two
+    pub first-passes : Passes f i n one
+    pub second-passes : Passes f i n two
+
+  -- more than one are two
+  pub counted-two : (i n : ℕ) → 1 < count f i n → Pair i n
+  unfolding count
+  counted-two i zero h = absurd (omega arith)
+  counted-two i (suc n) h =
+      ⊎-elim
+      (λ y.
+      let l : 1 < suc (count f (suc i) n) = rw y at h in
+      let r = counted-one (suc i) n (omega arith) in
+      record {
+        one = i;
+        two = r .0;
+        order = omega (arith, r .1 .from);
+        first-passes = record { from = omega arith; below = omega arith; passes = y };
+        second-passes = further i n (r .0) (r .1);
+      })
+      (λ z.
+      let r = counted-two (suc i) n (rw z at h) in
+      record { one = r .one; two = r .two; order = r .order; first-passes = further i n (r .one) (r .first-passes); second-passes = further i n (r .two) (r .second-passes) })
+      (went (f i))
+    where
+      further : (i n k : ℕ) → Passes f (suc i) n k → Passes f i (suc n) k
+      further i n k s = record { from = omega (arith, s .from); below = omega (arith, s .below); passes = s .passes }
+
+  -- what passes is counted
+  pub some-counted : (i n k : ℕ) → Passes f i n k → 0 < count f i n
+  unfolding count
+  some-counted i zero k s = absurd (omega (arith, s .from, s .below))
+  some-counted i (suc n) k s =
+      ⊎-elim
+      (λ y. rw y (omega arith))
+      (λ z.
+      let l : i ≡ k → ⊥ = λ e. clear (ap f e ∙ s .passes) z in
+      rw z (some-counted (suc i) n k (record { from = omega (arith, s .from); below = omega (arith, s .below); passes = s .passes })))
+      (went (f i))
+
+  -- of those that pass, one is the lowest
+  pub lowest-of : (i n k : ℕ) → Passes f i n k → (j : ℕ) × Lowest f i n j
+  lowest-of i n k s = go (first f i n) refl
+    where
+      go : (x : Found) → first f i n ≡ x → (j : ℕ) × Lowest f i n j
+      go (At j) e = (j, first-found f i n j e)
+      go Nothing e = absurd (clear (s .passes) (first-nothing f i n e k (s .from) (s .below)))
+
+-- v is selected and present, and nothing under its item number is
+pub record LacksAll (doc : Doc) (p : ℕ → Bool) (r : Rule) : Type 0 where
+  pub v : ℕ
+  pub chosen : selected doc r v ≡ true
+  pub here : p v ≡ true
+  pub none : (f : ℕ) → inGroup doc r (numberOf doc v) f ≡ true → p f ≡ true → ⊥
+
+-- v is selected and present, and so is one under its item number
+pub record SomeAll (doc : Doc) (p : ℕ → Bool) (r : Rule) : Type 0 where
+  pub v : ℕ
+  pub f : ℕ
+  pub chosen : selected doc r v ≡ true
+  pub here : p v ≡ true
+  pub one : inGroup doc r (numberOf doc v) f ≡ true
+  pub one-here : p f ≡ true
+
+-- v is selected and present, and so are two under its item number
+pub record TwiceAll (doc : Doc) (p : ℕ → Bool) (r : Rule) : Type 0 where
+  pub v : ℕ
+  pub f : ℕ
+  pub g : ℕ
+  pub chosen : selected doc r v ≡ true
+  pub here : p v ≡ true
+  pub apart : f ≡ g → ⊥
+  pub first : inGroup doc r (numberOf doc v) f ≡ true
+  pub second : inGroup doc r (numberOf doc v) g ≡ true
+  pub first-here : p f ≡ true
+  pub second-here : p g ≡ true
+
+-- v is selected and present, and under its item number fewer than `low` are counted
+pub record Fewer (doc : Doc) (p : ℕ → Bool) (r : Rule) (low : ℕ) : Type 0 where
+  pub v : ℕ
+  pub chosen : selected doc r v ≡ true
+  pub here : p v ≡ true
+  pub fewer : count (counts doc p r (numberOf doc v)) 0 (doc .size) < low
+
+-- v is selected and present, and under its item number more than `high` are present
+pub record More (doc : Doc) (p : ℕ → Bool) (r : Rule) (high : ℕ) : Type 0 where
+  pub v : ℕ
+  pub chosen : selected doc r v ≡ true
+  pub here : p v ≡ true
+  pub more : high < count (λ f. inGroup doc r (numberOf doc v) f && p f) 0 (doc .size)
+
+-- a number that is not within a rule's bounds lies below the one or above the other
+outside-cases : (r : Rule) (low high c : ℕ) → pos low ≡ r .low → pos high ≡ r .high → not (within r (pos c)) ≡ true → (c < low) ⊎ (high < c)
+unfolding within
+outside-cases r low high c l h e =
+    let out : leb low c && leb c high ≡ false = rw (sym l, sym h) at (not-true (within r (pos c)) e) in
+    and-else (leb low c) (leb c high) (λ z. inl (leb-false low c z)) (λ z. inr (leb-false c high z)) out
+
+module _ (doc : Doc) (p : ℕ → Bool) (r : Rule) (flat : isSequenced r ≡ false) (n : ℕ) where
+  -- what is under an item number is a present one of its group
+  under-present : (f : ℕ) → under doc p r n f ≡ true → inGroup doc r n f && p f ≡ true
+  unfolding under
+  under-present f e =
+      let w = any-true _ 0 (doc .size) e in
+      let v = w .0 in
+      let t = simp says at (w .1 .passes) in
+      let own = gives-row doc p r (windowed-wants doc r flat) v (present-chosen doc p r v (t .0 .0) .0) f (t .0 .1) in
+      both (inGroup doc r n f) (p f) (under-group doc r n f (record { of = v; row = own .0; number = t .1 })) (own .1)
+
+  -- and the other way round, where a present one's version is present
+  present-under : ((v f : ℕ) → inRow doc r v f ≡ true → p f ≡ true → p v ≡ true) → (f : ℕ) → inGroup doc r n f ≡ true → p f ≡ true → under doc p r n f ≡ true
+  unfolding under present
+  present-under held f i h =
+      let u = group-under doc r n f i in
+      let v = u .of in
+      let chosen = row-selected doc r v f (u .row) in
+      any-some _ 0 (doc .size) v
+      (record {
+        from = omega arith;
+        below = omega (arith, selected-here doc r v chosen);
+        passes = simp says (((chosen, held v f (u .row) h), row-gives doc p r (windowed-wants doc r flat) v f (u .row) h), u .number);
+      })
+
+  -- what is counted is a present one of the group
+  counts-present : (f : ℕ) → counts doc p r n f ≡ true → inGroup doc r n f && p f ≡ true
+  unfolding counts
+  counts-present f e = under-present f (and-l (under doc p r n f) _ e)
+
+  -- the lowest one under an item number is counted, be it by values or not
+  lowest-counts : (j : ℕ) → Lowest (under doc p r n) 0 (doc .size) j → counts doc p r n j ≡ true
+  unfolding counts
+  lowest-counts j l =
+      let none : any (λ g. sameValue doc j g && under doc p r n g) 0 j ≡ false =
+      any-none _ 0 j (λ g a b. rw (l .before g a (omega arith)) (and-false (sameValue doc j g))) in
+      rw (l .passes, none) (ap not (and-false (eqb (r .distinct) 1)))
+
+  -- so where something under it is present, one or more are counted
+  present-counted : ((v f : ℕ) → inRow doc r v f ≡ true → p f ≡ true → p v ≡ true) → (f : ℕ) → inGroup doc r n f ≡ true → p f ≡ true
+      → 0 < count (counts doc p r n) 0 (doc .size)
+  present-counted held f i h =
+      let u = group-under doc r n f i in
+      let low = lowest-of (under doc p r n) 0 (doc .size) f
+      (record { from = omega arith; below = omega (arith, row-below doc r (u .of) f (u .row)); passes = present-under held f i h }) in
+      let l = low .1 in
+      some-counted (counts doc p r n) 0 (doc .size) (low .0) (record { from = l .from; below = l .below; passes = lowest-counts (low .0) l })
+
+-- An offender of a cardinality, be it of values or of field versions.
+module _ (doc : Doc) (p : ℕ → Bool) (q r : Rule) (flat : isSequenced r ≡ false) (low high : ℕ) where
+  -- too few are counted under its item number, or too many are present
+  pub cardinality-offence : pos low ≡ r .low → pos high ≡ r .high → r .kind ≡ 4 → (v : ℕ) → offendsIn doc p q r v ≡ true → Fewer doc p r low ⊎ More doc p r high
+  unfolding byKind breaksIn cardinalityIn
+  cardinality-offence l h k v bad =
+      let b = broken doc p q r flat v bad 4 k in
+      let here = present-chosen doc p r v (and-l (present doc p r v) _ b) in
+      let n = numberOf doc v in
+      ⊎-elim
+      (λ c. inl (record { v = v; chosen = here .0; here = here .1; fewer = c }))
+      (λ c.
+      inr
+      (record {
+        v = v;
+        chosen = here .0;
+        here = here .1;
+        more = omega (arith, c, count-within (counts doc p r n) (λ f. inGroup doc r n f && p f) (counts-present doc p r flat n) 0 (doc .size));
+      }))
+      (outside-cases r low high _ l h (and-r (present doc p r v) _ b))
+
+  -- fewer than one are none
+  pub fewer-lacks : ((v f : ℕ) → inRow doc r v f ≡ true → p f ≡ true → p v ≡ true) → low ≤ 1 → Fewer doc p r low → LacksAll doc p r
+  fewer-lacks held l s =
+      record {
+        v = s .v;
+        chosen = s .chosen;
+        here = s .here;
+        none = λ f i h. omega (arith, s .fewer, present-counted doc p r flat (numberOf doc (s .v)) held f i h);
+      }
+
+-- What more than `high` present ones under an item number come to.
+module _ (doc : Doc) (p : ℕ → Bool) (r : Rule) (high : ℕ) (s : More doc p r high) where
+  -- under the item number, and present
+  abbrev there : ℕ → Bool
+  there f = inGroup doc r (numberOf doc (s .v)) f && p f
+
+  -- and each by itself
+  parts : (f : ℕ) → there f ≡ true → (inGroup doc r (numberOf doc (s .v)) f ≡ true) × (p f ≡ true)
+  parts f e = simp says at e
+
+  -- there are as many in the group, present or not
+  pub more-all : high < count (inGroup doc r (numberOf doc (s .v))) 0 (doc .size)
+  more-all =
+      let n = numberOf doc (s .v) in
+      omega (arith, s .more, count-within there (inGroup doc r n) (λ f e. parts f e .0) 0 (doc .size))
+
+  -- one is present
+  pub more-one : SomeAll doc p r
+  more-one =
+      let w = counted-one there 0 (doc .size) (omega (arith, s .more)) in
+      let a = parts (w .0) (w .1 .passes) in
+      record { v = s .v; f = w .0; chosen = s .chosen; here = s .here; one = a .0; one-here = a .1 }
+
+  -- and is so in some row
+  pub more-some : Some doc p r
+  more-some =
+      let o = more-one in
+      let u = group-under doc r (numberOf doc (o .v)) (o .f) (o .one) in
+      record { v = u .of; f = o .f; in-row = u .row; here = o .one-here }
+
+  -- two are, where one is allowed
+  pub more-two : 1 ≤ high → TwiceAll doc p r
+  more-two l =
+      let w = counted-two there 0 (doc .size) (omega (arith, s .more)) in
+      let a = parts (w .one) (w .first-passes .passes) in
+      let b = parts (w .two) (w .second-passes .passes) in
+      record {
+        v = s .v;
+        f = w .one;
+        g = w .two;
+        chosen = s .chosen;
+        here = s .here;
+        apart = λ e. omega (arith, w .order);
+        first = a .0;
+        second = b .0;
+        first-here = a .1;
+        second-here = b .1;
+      }
+
+-- f, in the row of v, is present, and its reach lies after day `from`
+pub record Wrong (doc : Doc) (p : ℕ → Bool) (r : Rule) (reach : List ℕ) (from f : ℕ) : Type 0 where
+  pub v : ℕ
+  pub in-row : inRow doc r v f ≡ true
+  pub here : p f ≡ true
+  pub late : from < getD reach f 0
+
+-- An offender of a datatype, itself a field version, in a window.
+module _ (doc : Doc) (q r : Rule) (ok : Judgeable doc) (flat : isSequenced r ≡ false) (w : Window) (reach : List ℕ) (s : Reaches doc r reach) where
+  -- it is present, in a row, and its reach lies after the first day
+  pub datatype-offence : w .from ≤ 36524 → r .kind ≡ 5 → (f : ℕ) → offendsIn doc (meets doc w) q r f ≡ true → Wrong doc (meets doc w) r reach (w .from) f
+  unfolding wrongAfter
+  datatype-offence l k f bad =
+      let e : wrongAfter doc r f (w .from) && meets doc w f ≡ true = sym (offends-in doc r ok flat w q f k) ∙ bad in
+      let wrong = and-l (wrongAfter doc r f (w .from)) (meets doc w f) e in
+      let row = any-true _ 0 (doc .size) wrong in
+      let v = row .0 in
+      let i = and-l (inRow doc r v f) _ (row .1 .passes) in
+      record {
+        v = v;
+        in-row = i;
+        here = and-r (wrongAfter doc r f (w .from)) (meets doc w f) e;
+        late = ltb-true (w .from) (getD reach f 0) (s .above f (w .from) (row-below doc r v f i) l ∙ wrong);
+      }

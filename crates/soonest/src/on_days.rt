@@ -1,0 +1,126 @@
+// The soonest day of a sequenced rule's period on which it can fail, by its kind.
+use crate::counts;
+use crate::keys;
+use crate::parts;
+use crate::sooner;
+ghost use mathlib.Core.Path.{_≡_};
+ghost use mathlib.Core.Bool.{true};
+ghost use Prim.Native.Nat.{_≤_};
+ghost use lib.ListN.{length};
+ghost use Rattle.meaning.specs.declared.Rule.{Rule};
+ghost use Rattle.meaning.specs.Block.{limit};
+ghost use Rattle.meaning.specs.Document.{Doc};
+ghost use Rattle.meaning.specs.Rules.{isSequenced};
+ghost use Rattle.places.specs.declared.Places.{Places};
+ghost use Rattle.crowds.specs.Crowds.{ByMany, Ordered};
+ghost use Rattle.soonest.specs.Lined.{Ground};
+ghost use Rattle.soonest.specs.Parts.{ByTwice, ByShared, ByUnheld, ByFew, Small};
+ghost use Rattle.soonest.specs.Soon.{Soon};
+ghost use Rattle.soonest.specs.Swept.{Swept};
+
+// A unique: two values in a row, or one value in two rows.
+fn unique(order: &[u16], row: &[u16], rep: &[u16], lo: &[u16], hi: &[u16], n: usize) -> u16
+    requires { ⌜ (n ≤ limit) × Ground (now order) (now lo) (now hi) n × (n ≤ length (now row)) × Small n (now rep) ⌝ }
+    ensures { λ r. ⌜ ByTwice (now (order .entry)) (now (row .entry)) (now (lo .entry)) (now (hi .entry)) n r × ByShared (now (order .entry)) (now (row .entry)) (now (rep .entry)) (now (row .entry)) (now (lo .entry)) (now (hi .entry)) n r ⌝ }
+{
+    sooner(
+        parts::twice(order, row, lo, hi, n),
+        parts::shared(order, row, rep, row, lo, hi, n),
+    )
+}
+
+// A reference: two values in a row of either rule, or a value that no row of the other rule has.
+fn reference(
+    order: &[u16],
+    row: &[u16],
+    other: &[u16],
+    rep: &[u16],
+    lo: &[u16],
+    hi: &[u16],
+    n: usize,
+) -> u16
+    requires { ⌜ (n ≤ limit) × Ground (now order) (now lo) (now hi) n × (n ≤ length (now row)) × (n ≤ length (now other)) × Small n (now rep) ⌝ }
+    ensures { λ r. ⌜ ByTwice (now (order .entry)) (now (row .entry)) (now (lo .entry)) (now (hi .entry)) n r × ByTwice (now (order .entry)) (now (other .entry)) (now (lo .entry)) (now (hi .entry)) n r × ByUnheld (now (order .entry)) (now (row .entry)) (now (other .entry)) (now (rep .entry)) (now (lo .entry)) (now (hi .entry)) n r ⌝ }
+{
+    let doubled = sooner(
+        parts::twice(order, row, lo, hi, n),
+        parts::twice(order, other, lo, hi, n),
+    );
+    sooner(doubled, parts::unheld(order, row, other, rep, lo, hi, n))
+}
+
+// A cardinality: too few of the class of a marked record, or too many of one key.
+pub fn cardinality(
+    order: &[u16],
+    closes: &[u16],
+    marks: &[u8],
+    class: &[u16],
+    key: &[u16],
+    lo: &[u16],
+    hi: &[u16],
+    n: usize,
+    low: usize,
+    high: usize,
+) -> u16
+    requires { ⌜ (n ≤ limit) × Ground (now order) (now lo) (now hi) n × (n ≤ length (now marks)) × (n ≤ length (now key)) × Small n (now class) × Ordered (now order) (now lo) (now key) n × Ordered (now closes) (now hi) (now key) n ⌝ }
+    ensures { λ r. ⌜ ByFew (now (order .entry)) (now (marks .entry)) (now (class .entry)) (now (key .entry)) (now (lo .entry)) (now (hi .entry)) n low r × ByMany (now (key .entry)) (now (lo .entry)) (now (hi .entry)) n high r ⌝ }
+{
+    sooner(
+        counts::too_few(order, marks, class, key, lo, hi, n, low),
+        counts::too_many(order, closes, key, lo, hi, n, high),
+    )
+}
+
+// A key: no value, two values in a row, or one value in two rows; `own` has each record's own number.
+fn key(
+    order: &[u16],
+    chosen: &[u8],
+    own: &[u16],
+    row: &[u16],
+    rep: &[u16],
+    lo: &[u16],
+    hi: &[u16],
+    n: usize,
+) -> u16
+    requires { ⌜ (n ≤ limit) × Ground (now order) (now lo) (now hi) n × (n ≤ length (now chosen)) × (n ≤ length (now row)) × Small n (now rep) × Small n (now own) ⌝ }
+    ensures { λ r. ⌜ ByFew (now (order .entry)) (now (chosen .entry)) (now (own .entry)) (now (row .entry)) (now (lo .entry)) (now (hi .entry)) n 1 r × ByTwice (now (order .entry)) (now (row .entry)) (now (lo .entry)) (now (hi .entry)) n r × ByShared (now (order .entry)) (now (row .entry)) (now (rep .entry)) (now (row .entry)) (now (lo .entry)) (now (hi .entry)) n r ⌝ }
+{
+    sooner(
+        counts::too_few(order, chosen, own, row, lo, hi, n, 1),
+        unique(order, row, rep, lo, hi, n),
+    )
+}
+
+// The soonest day, counted from the period's first: nothing offends on any day before it. Cost: that of the parts that the kind has.
+pub fn on_days(
+    kind: u8,
+    low: usize,
+    high: usize,
+    order: &[u16],
+    closes: &[u16],
+    chosen: &[u8],
+    row: &[u16],
+    other: &[u16],
+    rep: &[u16],
+    lo: &[u16],
+    hi: &[u16],
+    n: usize,
+) -> u16
+    requires { ⌜ ((doc : Doc) × (q : Rule) × (r : Rule) × (places : Places) × Swept doc q r places (now order) (now closes) (now chosen) (now row) (now other) (now rep) (now lo) (now hi) kind low high × (doc .size ≡ n)) ⌝ }
+    ensures { λ x. ⌜ ((doc : Doc) → (q r : Rule) → (places : Places) → Swept doc q r places (now (order .entry)) (now (closes .entry)) (now (chosen .entry)) (now (row .entry)) (now (other .entry)) (now (rep .entry)) (now (lo .entry)) (now (hi .entry)) kind low high → doc .size ≡ n → isSequenced r ≡ true → Soon doc q r places x) ⌝ }
+{
+    if kind == 2 {
+        return unique(order, row, rep, lo, hi, n);
+    }
+    if kind == 3 {
+        return reference(order, row, other, rep, lo, hi, n);
+    }
+    if 5 <= kind {
+        return passes::least(order, row, lo, hi, n);
+    }
+    let own = keys::numbered(n);
+    if kind == 4 {
+        return cardinality(order, closes, chosen, &own, row, lo, hi, n, low, high);
+    }
+    key(order, chosen, &own, row, rep, lo, hi, n)
+}
