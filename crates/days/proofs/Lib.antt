@@ -1,3 +1,4 @@
 -- The laws behind the verdict on days.
 pub mod Walking
 pub mod Settling
+pub mod OneDay

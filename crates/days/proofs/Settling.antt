@@ -1,8 +1,8 @@
 -- From a rule prepared over an accepted document to its verdict: the walk may be taken, and what it answers is the verdict over every day.
-use mathlib.Core.Path.{_≡_, sym, ap, ap₂, _∙_, fun-ext}
+use mathlib.Core.Path.{_≡_, sym, ap, _∙_, fun-ext}
 use mathlib.Core.Bool.{Bool, true, _||_}
 use mathlib.Core.List.{List}
-use Prim.Native.Nat.{ℕ, _-_, _≤_}
+use Prim.Native.Nat.{ℕ, _+_, _-_, _≤_}
 use native.Mathlib.Omega.{arith}
 use lib.ListN.{length, getD}
 use Rattle.meaning.specs.declared.Found.{Found}
@@ -24,26 +24,38 @@ use Rattle.prepare.specs.declared.Prepared.{Prepared}
 use Rattle.prepare.specs.Rows.{Rows}
 use Rattle.prepare.specs.Rowed.{Rowed}
 use Rattle.prepare.proofs.Valued.{valued-only}
-use Rattle.changes.proofs.Spans.{last-few, in-order, change-list}
+use Rattle.changes.proofs.Spans.{last-few, change-list}
 use Rattle.day.specs.Ready.{Ready, Terms}
-use Rattle.days.specs.Judging.{Walkable, Posed, offenderAlive, Settled}
+use Rattle.days.specs.Judging.{Walkable, Posed, offenderAlive, NoneBefore, Settled}
+use Rattle.days.proofs.Walking.{over-past}
 
 -- rows with the columns read along them
-ready : {doc : Doc} {r : Rule} {own : Prepared} {begins ends reps : List ℕ} → Rowed doc r own → Periods doc begins ends → Represents doc reps
+pub ready : {doc : Doc} {r : Rule} {own : Prepared} {begins ends reps : List ℕ} → Rowed doc r own → Periods doc begins ends → Represents doc reps
     → Ready doc r (own .start) (own .next) (own .last) (own .lower) begins ends reps
 ready s w v = record { rows = s .rows; periods = w; represents = v }
 
+-- where the days before day `from` are known to have none, the verdict from there on is the verdict over all
+pub passed : {doc : Doc} {q r : Rule} (c : ℕ → Bool) {sure from : ℕ} → NoneBefore doc q r sure → r .begin ≤ from → from ≤ r .end → from ≤ r .begin + sure
+    → over (offender doc q r) (pick c from (r .end - from)) (length (pick c (r .begin) (from - r .begin))) ≡ over (offender doc q r) (pick c (r .begin) (r .end - r .begin)) 0
+passed {doc} {q} {r} c {from = from} known o b h =
+    let m : r .end - r .begin ≡ (from - r .begin) + (r .end - from) = omega arith in
+    let i : r .begin + (from - r .begin) ≡ from = omega arith in
+    let k : length (pick c (r .begin) (from - r .begin)) + 0 ≡ length (pick c (r .begin) (from - r .begin)) = omega arith in
+    let e = over-past (offender doc q r) c (from - r .begin) (r .end - from) (r .begin) 0 (λ d l u. known .none d l (omega arith) (omega arith)) in
+    rw m (sym (rw (i, k) at e))
+
 module _ {doc : Doc} {q r : Rule} {own held : Prepared} {begins ends reps : List ℕ} (s : Settled doc q r own held begins ends reps) (f : ruleFields r ≡ true) where
-  pub walkable : {days stamps : List ℕ} → 36526 ≤ length days → limit ≤ length stamps → ((x : ℕ) → getD stamps x 0 ≡ 0)
-      → Walkable (own .start) (own .next) (own .last) (own .lower) (held .start) (held .next) (held .last) (held .lower) begins ends reps days (r .begin) (r .end) stamps
-  walkable h l z =
+  pub walkable : {days stamps : List ℕ} {from : ℕ} → r .begin ≤ from → from ≤ r .end → 36526 ≤ length days → limit ≤ length stamps → ((x : ℕ) → getD stamps x 0 ≡ 0)
+      → Walkable (own .start) (own .next) (own .last) (own .lower) (held .start) (held .next) (held .last) (held .lower) begins ends reps days (r .begin) from (r .end) stamps
+  walkable o b h l z =
       record {
         doc = doc;
         rule = r;
         other = s .other;
         ready = ready (s .rowed) (s .periods) (s .represents);
         held = ready (s .other-rowed) (s .periods) (s .represents);
-        order = in-order r f;
+        opened = o;
+        order = b;
         marks = omega (arith, last-few r f);
         days-few = last-few r f;
         room = omega (arith, s .judgeable .few);
@@ -62,15 +74,18 @@ module _ {doc : Doc} {q r : Rule} {own held : Prepared} {begins ends reps : List
         }
 
     -- who offends among the versions alive offends on the day
-    same-offender : offenderAlive doc q r ≡ offender doc q r
+    pub same-offender : offenderAlive doc q r ≡ offender doc q r
     unfolding offender
     same-offender =
         fun-ext (λ d. ap (λ (p : ℕ → Bool). first (offends doc p q r) 0 (doc .size)) (fun-ext (λ v. sym (s .judgeable .present d v))))
 
-    pub judged : {days : List ℕ} → Marks (isChange doc q r) 36526 days → {x : Verdict}
-        → x ≡ over (offenderAlive doc q r) (pick (marked days) (r .begin) (r .end - r .begin)) 0 → x ≡ onDays doc q r
-    judged m e =
-        e ∙ ap₂ (λ (g : ℕ → Found) (ds : List ℕ). over g ds 0) same-offender (change-list doc q r f m)
+    pub judged : {days : List ℕ} {sure from : ℕ} → Marks (isChange doc q r) 36526 days → NoneBefore doc q r sure → r .begin ≤ from → from ≤ r .end → from ≤ r .begin + sure
+        → {x : Verdict} → x ≡ over (offenderAlive doc q r) (pick (marked days) from (r .end - from)) (length (pick (marked days) (r .begin) (from - r .begin)))
+        → x ≡ onDays doc q r
+    judged {days} {from = from} m known o b h e =
+        e ∙ ap (λ (g : ℕ → Found). over g (pick (marked days) from (r .end - from)) (length (pick (marked days) (r .begin) (from - r .begin)))) same-offender
+        ∙ passed (marked days) known o b h
+        ∙ ap (λ (ds : List ℕ). over (offender doc q r) ds 0) (change-list doc q r f m)
         ∙ sym (verdict-changes doc q r (s .judgeable .present))
 
 -- what preparing has given, put together: p is q where r is a reference

@@ -2,13 +2,14 @@
 use mathlib.Core.Path.{_≡_}
 use mathlib.Core.Bool.{true}
 use mathlib.Core.List.{List}
-use Prim.Native.Nat.{ℕ, _≤_}
+use Prim.Native.Nat.{ℕ, _+_, _≤_, _<_}
 use lib.ListN.{length, getD}
 use Rattle.meaning.specs.declared.Found.{Found}
+use Rattle.meaning.specs.declared.Found.the-variants.{Nothing}
 use Rattle.meaning.specs.declared.Rule.{Rule}
 use Rattle.meaning.specs.Walk.{first}
 use Rattle.meaning.specs.Document.{Doc}
-use Rattle.meaning.specs.Day.{alive, offends}
+use Rattle.meaning.specs.Day.{alive, offends, offender}
 use Rattle.meaning.specs.Rules.{isReference, isSequenced}
 use Rattle.meaning.specs.Select.{valued}
 use Rattle.columns.specs.Lent.{Periods}
@@ -19,13 +20,14 @@ use Rattle.prepare.specs.Rows.{wants}
 use Rattle.prepare.specs.Rowed.{Rowed}
 use Rattle.day.specs.Ready.{Ready, Referred, Terms}
 
--- two prepared rules over one document, marks for the days of a stretch, and a clear stamp for each record
-pub record Walkable (start : ℕ) (next last lower : List ℕ) (held-start : ℕ) (held-next held-last held-lower begins ends reps days : List ℕ) (from to : ℕ) (stamps : List ℕ) : Type 0 where
+-- two prepared rules over one document, marks for the days of a period and the day to begin with, and a clear stamp for each record
+pub record Walkable (start : ℕ) (next last lower : List ℕ) (held-start : ℕ) (held-next held-last held-lower begins ends reps days : List ℕ) (opening from to : ℕ) (stamps : List ℕ) : Type 0 where
   pub doc : Doc
   pub rule : Rule
   pub other : Rule
   pub ready : Ready doc rule start next last lower begins ends reps
   pub held : Ready doc other held-start held-next held-last held-lower begins ends reps
+  pub opened : opening ≤ from
   pub order : from ≤ to
   pub marks : to ≤ length days
   pub days-few : to ≤ 36526
@@ -42,6 +44,10 @@ pub record Posed (doc : Doc) (q r : Rule) (start : ℕ) (next last lower : List 
 -- the lowest offender among the versions alive on day d; in a sound document that is the lowest of the day
 abbrev pub offenderAlive : Doc → Rule → Rule → ℕ → Found
 offenderAlive doc q r d = first (offends doc (alive doc d) q r) 0 (doc .size)
+
+-- none of the first days of the period, so many of them as it has, has an offender
+pub record NoneBefore (doc : Doc) (q r : Rule) (sure : ℕ) : Type 0 where
+  pub none : (d : ℕ) → r .begin ≤ d → d < r .begin + sure → d < r .end → offender doc q r d ≡ Nothing
 
 -- rule r, which refers to q if it is a reference, and the rule that it refers to, or another one, prepared over an accepted document
 pub record Settled (doc : Doc) (q r : Rule) (own held : Prepared) (begins ends reps : List ℕ) : Type 0 where

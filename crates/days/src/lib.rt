@@ -6,7 +6,8 @@ use meaning::Verdict;
 use prepare::Prepared;
 ghost use mathlib.Core.Path.{_≡_};
 ghost use mathlib.Core.Bool.{true, _||_};
-ghost use Prim.Native.Nat.{_-_};
+ghost use Prim.Native.Nat.{_+_, _-_, _≤_};
+ghost use lib.ListN.{length};
 ghost use Rattle.meaning.specs.declared.Rule.{Rule};
 ghost use Rattle.meaning.specs.Document.{Doc};
 ghost use Rattle.meaning.specs.Walk.{pick};
@@ -17,10 +18,13 @@ ghost use Rattle.columns.specs.Lent.{Tree, Values, Periods};
 ghost use Rattle.columns.specs.Judgeable.{Judgeable};
 ghost use Rattle.marks.specs.Marks.{marked};
 ghost use Rattle.values.specs.Represents.{Represents};
-ghost use Rattle.days.specs.Judging.{Walkable, Posed, offenderAlive, Settled};
+ghost use Rattle.days.specs.Judging.{Walkable, Posed, offenderAlive, NoneBefore, Settled};
 
-// The first of the marked days from `from` on and below `to` that has an offender, with its lowest one and how many days were looked at.
-// Cost: a look at each day of the stretch, and for each marked one a look for each selected version and each of its wanted field versions.
+pub mod known; // known.rt: the verdict where one day is judged and the change days are counted along two orders
+
+// The first of the marked days from `from` on and below `to` that has an offender, with its lowest one and how many marked days there are
+// from `opening` up to it: those before `from` are counted and not looked at. Cost: a look at each day of the stretch from `opening` on, and for
+// each marked one from `from` on a look for each selected version and each of its wanted field versions.
 fn walk<'a>(
     start: usize,
     next: &'a [u16],
@@ -34,6 +38,7 @@ fn walk<'a>(
     end: &[u16],
     rep: &[u16],
     days: &[u8],
+    opening: usize,
     from: usize,
     to: usize,
     mode: u8,
@@ -41,10 +46,10 @@ fn walk<'a>(
     high: usize,
     stamp: &mut [u16],
 ) -> Verdict
-    requires { ⌜ Walkable start (now next) (now last) (now lower) «held_start» (now «held_next») (now «held_last») (now «held_lower») (now begin) (now end) (now rep) (now days) from to (now stamp) ⌝ }
-    ensures { λ x. ⌜ ((doc : Doc) → (q r : Rule) → Posed doc q r start (now (next .entry)) (now (last .entry)) (now (lower .entry)) «held_start» (now («held_next» .entry)) (now («held_last» .entry)) (now («held_lower» .entry)) (now (begin .entry)) (now (end .entry)) (now (rep .entry)) mode low high → x ≡ over (offenderAlive doc q r) (pick (marked (now (days .entry))) from (to - from)) 0) ⌝ }
+    requires { ⌜ Walkable start (now next) (now last) (now lower) «held_start» (now «held_next») (now «held_last») (now «held_lower») (now begin) (now end) (now rep) (now days) opening from to (now stamp) ⌝ }
+    ensures { λ x. ⌜ ((doc : Doc) → (q r : Rule) → Posed doc q r start (now (next .entry)) (now (last .entry)) (now (lower .entry)) «held_start» (now («held_next» .entry)) (now («held_last» .entry)) (now («held_lower» .entry)) (now (begin .entry)) (now (end .entry)) (now (rep .entry)) mode low high → x ≡ over (offenderAlive doc q r) (pick (marked (now (days .entry))) from (to - from)) (length (pick (marked (now (days .entry))) opening (from - opening)))) ⌝ }
 {
-    let mut looked: usize = 0;
+    let mut looked = marks::count_marked(days, opening, from);
     let mut d = marks::next_marked(days, from, to);
     while d < to {
         looked += 1;
@@ -75,10 +80,31 @@ fn walk<'a>(
     Verdict::Holds(looked)
 }
 
-// The verdict on a prepared rule. Cost: a look at each record for the change days, then the walk.
-fn judge(own: Prepared, held: Prepared, begin: &[u16], end: &[u16], rep: &[u16], r: Rule) -> Verdict
+// The day to begin with, in a period from `opening` up to `to` of which the first `sure` days are known to have no offender: the first one
+// after them, or `to` where there is none. Cost: none.
+fn set_out(opening: usize, to: usize, sure: usize) -> usize
+    requires { ⌜ opening ≤ to ⌝ }
+    ensures { λ x. ⌜ (opening ≤ x) × (x ≤ to) × (x ≤ opening + sure) ⌝ }
+{
+    if sure < to - opening {
+        return opening + sure;
+    }
+    to
+}
+
+// The verdict on a prepared rule, of whose period the first `sure` days are known to have no offender. Cost: a look at each record for the
+// change days, then the walk.
+fn judge(
+    own: Prepared,
+    held: Prepared,
+    begin: &[u16],
+    end: &[u16],
+    rep: &[u16],
+    r: Rule,
+    sure: usize,
+) -> Verdict
     requires { ⌜ (ruleFields r ≡ true) × ((doc : Doc) × (q : Rule) × Settled doc q r own held (now begin) (now end) (now rep)) ⌝ }
-    ensures { λ x. ⌜ ((doc : Doc) → (q : Rule) → Settled doc q r own held (now (begin .entry)) (now (end .entry)) (now (rep .entry)) → isSequenced r ≡ true → x ≡ onDays doc q r) ⌝ }
+    ensures { λ x. ⌜ ((doc : Doc) → (q : Rule) → Settled doc q r own held (now (begin .entry)) (now (end .entry)) (now (rep .entry)) → isSequenced r ≡ true → NoneBefore doc q r sure → x ≡ onDays doc q r) ⌝ }
 {
     let mut days = [0u8; changes::DAYS];
     changes::mark_changes(
@@ -91,6 +117,9 @@ fn judge(own: Prepared, held: Prepared, begin: &[u16], end: &[u16], rep: &[u16],
         &mut days,
     );
     let bounds = day::terms::terms(r);
+    let opening = r.begin as usize;
+    let to = r.end as usize;
+    let from = set_out(opening, to, sure);
     let mut stamp = [0u16; LIMIT];
     walk(
         own.start,
@@ -105,8 +134,9 @@ fn judge(own: Prepared, held: Prepared, begin: &[u16], end: &[u16], rep: &[u16],
         end,
         rep,
         &days,
-        r.begin as usize,
-        r.end as usize,
+        opening,
+        from,
+        to,
         bounds.mode,
         bounds.low,
         bounds.high,
@@ -114,9 +144,10 @@ fn judge(own: Prepared, held: Prepared, begin: &[u16], end: &[u16], rep: &[u16],
     )
 }
 
-// The verdict on the sequenced rule r, which refers to q if it is a reference, over an accepted document with a representative for each value.
-// Cost: preparing the rule, and the rule that it refers to; then a look at each day of its period, and for each change day a look for
-// each selected version and each of its wanted field versions.
+// The verdict on the sequenced rule r, which refers to q if it is a reference, over an accepted document with a representative for each value;
+// of its period the first `sure` days, or all if it has no more, are known to have no offender.
+// Cost: preparing the rule, and the rule that it refers to; then a look at each day of its period, and for each change day after those
+// known a look for each selected version and each of its wanted field versions.
 pub fn verdict(
     kind: &[u8],
     vkind: &[u8],
@@ -128,11 +159,12 @@ pub fn verdict(
     rep: &[u16],
     q: Rule,
     r: Rule,
+    sure: usize,
 ) -> Verdict
     requires { ⌜ (ruleFields r ≡ true) × (isReference r ≡ true → (ruleFields q ≡ true) × ((isKey q || isUnique q) ≡ true)) × ((doc : Doc) × Tree doc (now kind) (now name) (now parent) × Values doc (now kind) (now vkind) (now value) × Periods doc (now begin) (now end) × Represents doc (now rep) × Judgeable doc) ⌝ }
-    ensures { λ x. ⌜ ((doc : Doc) → (p : Rule) → Tree doc (now (kind .entry)) (now (name .entry)) (now (parent .entry)) → Values doc (now (kind .entry)) (now (vkind .entry)) (now (value .entry)) → Periods doc (now (begin .entry)) (now (end .entry)) → Represents doc (now (rep .entry)) → Judgeable doc → isSequenced r ≡ true → (isReference r ≡ true → p ≡ q) → x ≡ onDays doc p r) ⌝ }
+    ensures { λ x. ⌜ ((doc : Doc) → (p : Rule) → Tree doc (now (kind .entry)) (now (name .entry)) (now (parent .entry)) → Values doc (now (kind .entry)) (now (vkind .entry)) (now (value .entry)) → Periods doc (now (begin .entry)) (now (end .entry)) → Represents doc (now (rep .entry)) → Judgeable doc → isSequenced r ≡ true → (isReference r ≡ true → p ≡ q) → NoneBefore doc p r sure → x ≡ onDays doc p r) ⌝ }
 {
     let own = prepare::prepare(kind, vkind, name, parent, value, r);
     let held = prepare::prepare_referred(kind, vkind, name, parent, value, own, q, r);
-    judge(own, held, begin, end, rep, r)
+    judge(own, held, begin, end, rep, r, sure)
 }

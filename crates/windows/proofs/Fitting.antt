@@ -2,7 +2,7 @@
 use mathlib.Core.Path.{_≡_, refl, sym, _∙_}
 use mathlib.Core.Bool.{Bool, true, false}
 use mathlib.Core.List.{List}
-use Prim.Native.Nat.{ℕ, _-_, _≤_}
+use Prim.Native.Nat.{ℕ, _-_, _≤_, _<_}
 use native.Mathlib.Omega.{arith}
 use lib.ListN.{length}
 use Rattle.calendar.specs.declared.Month.{Month}
@@ -13,7 +13,7 @@ use Rattle.meaning.specs.declared.Rule.{Rule}
 use Rattle.meaning.specs.Rules.{ruleFields}
 use Rattle.meaning.proofs.Rows.{WindowRow, Lengths, whole-period as whole-row, in-days as day-row, in-months as month-row}
 use Rattle.meaning.proofs.Tables.{rule-row}
-use Rattle.windows.specs.Placing.{Placed, whole-period, in-days, in-months}
+use Rattle.windows.specs.Placing.{placeDay, Placed, whole-period, in-days, in-months}
 use Rattle.windows.specs.Walkable.{Going}
 
 module _ (r : Rule) (f : ruleFields r ≡ true) where
@@ -53,6 +53,16 @@ module _ (r : Rule) (f : ruleFields r ≡ true) where
   month-lengths (day-row u w l) e = absurd (omega arith)
   month-lengths (month-row u w l k p) e = l
 
+  -- the period ends by the last day of all
+  pub close-few : r .end ≤ 36525
+  close-few = omega (arith, rule-row r .0 f .period-end)
+
+  -- each window that fits a rule starts later than the one before
+  pub slides : {monthly : Bool} {place span slide : ℕ} → Placed r monthly place span slide → 1 ≤ slide
+  slides (whole-period u m p s l) = omega (arith, rule-row r .0 f .period)
+  slides (in-days u m p s l) = omega (arith, day-lengths (rule-row r .0 f .window) u .slide)
+  slides (in-months u m p s l) = omega (arith, month-lengths (rule-row r .0 f .window) u .slide)
+
   -- so windows that fit a rule go on
   pub going : {monthly : Bool} {place span slide close : ℕ} {days : List ℕ} → Placed r monthly place span slide → close ≡ r .end → 36526 ≤ length days
       → Going place span slide close days
@@ -86,3 +96,9 @@ module _ (r : Rule) (f : ruleFields r ≡ true) where
         close-most = omega arith;
         marks = h;
       }
+
+  -- the first window starts with the period
+  pub first-inside : {monthly : Bool} {place span slide : ℕ} → Placed r monthly place span slide → placeDay monthly place < r .end
+  first-inside (whole-period u m p s l) = rw m (omega (arith, rule-row r .0 f .period))
+  first-inside (in-days u m p s l) = rw m (omega (arith, rule-row r .0 f .period))
+  first-inside {place = k} (in-months u m p s l) = rw m (omega (arith, month-on-found (r .begin) k p .1, rule-row r .0 f .period))

@@ -2,7 +2,7 @@
 use mathlib.Core.Path.{_≡_, sym}
 use mathlib.Core.Logic.{⊎-elim}
 use mathlib.Core.Bool.{Bool, true, false}
-use Prim.Native.Nat.{ℕ, zero, suc, _+_, _*_, _≤_, _<_}
+use Prim.Native.Nat.{ℕ, zero, suc, _+_, _-_, _*_, _≤_, _<_}
 use native.Mathlib.Omega.{arith}
 use borrow.Author.Tests.{le-leb, lt-leb}
 use Rattle.calendar.specs.Gregorian.{monthStart}
@@ -46,7 +46,7 @@ least-rises a b c h =
     (le-or-lt a c)
 
 -- a month that starts before the last day of all is one of the table's
-month-low : (k : ℕ) → monthStart k < 36525 → k < 1200
+pub month-low : (k : ℕ) → monthStart k < 36525 → k < 1200
 month-low k h = ⊎-elim (λ m. absurd (omega (arith, start-past k m))) (λ m. m) (le-or-lt 1200 k)
 
 -- so is every place, or it is that day
@@ -74,3 +74,12 @@ days-climb monthly k slide close n one most inside (suc j) h =
       days-climb monthly k slide close n one most inside j (omega arith),
       days-ascend monthly (k + j * slide) (k + suc j * slide) (omega arith) (omega (arith, inside j (omega arith))),
     )
+
+-- so there are no more of them than days, and the place after them is small
+pub days-fit : (monthly : Bool) (k slide close n : ℕ) → 1 ≤ slide → close ≤ 36525 → ((j : ℕ) → j < n → placeDay monthly (k + j * slide) < close) → n ≤ close - placeDay monthly k
+days-fit monthly k slide close zero one most inside = omega arith
+days-fit monthly k slide close (suc n) one most inside = omega (arith, inside n (omega arith), days-climb monthly k slide close (suc n) one most inside n (omega arith))
+
+pub days-end : (monthly : Bool) (k slide close n : ℕ) → k ≤ 36525 → close ≤ 36525 → ((j : ℕ) → j < n → placeDay monthly (k + j * slide) < close) → k + n * slide ≤ 36525 + slide
+days-end monthly k slide close zero low most inside = omega arith
+days-end monthly k slide close (suc n) low most inside = omega (arith, place-low monthly (k + n * slide) (omega (arith, inside n (omega arith))))

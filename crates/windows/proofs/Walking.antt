@@ -18,7 +18,7 @@ use Rattle.meaning.specs.Window.{least}
 use Rattle.meaning.specs.Block.{limit}
 use Rattle.windows.specs.Placing.{placeDay}
 use Rattle.windows.specs.Walkable.{Reaches, Alike}
-use Rattle.windows.proofs.Starting.{place-low}
+use Rattle.windows.proofs.Starting.{place-low, days-climb, days-fit}
 use Rattle.windows.proofs.Leaping.{alike-later, alike-few}
 
 -- the verdict over the windows from place k on, at most n of them, so many having been looked at; f gives the offender from one day to another
@@ -69,9 +69,17 @@ module _ (monthly : Bool) (span slide close place : ℕ) where
     pub low : (x : ℕ) → getD stamps x 0 < looked + 1
     pub seen : (x : ℕ) → getD tokens x 0 < (looked + 1) * limit
 
-  pub walked-start : {from to : ℕ} {stamps tokens : List ℕ} → Reaches monthly place span close from to → ((x : ℕ) → getD stamps x 0 < 1)
-      → ((x : ℕ) → getD tokens x 0 < 1 * limit) → Walked 0 place from to stamps tokens
-  walked-start w l t = record { here = w; few = omega (arith, w .start); low = λ x. omega (arith, l x); seen = λ x. omega (arith, t x) }
+  -- behind the first windows, of which so many start in the period
+  pub walked-start : (done : ℕ) {from to : ℕ} {stamps tokens : List ℕ} → 1 ≤ slide → close ≤ 36525 → ((j : ℕ) → j < done → placeDay monthly (place + j * slide) < close)
+      → Reaches monthly (place + done * slide) span close from to → ((x : ℕ) → getD stamps x 0 < 1) → ((x : ℕ) → getD tokens x 0 < 1 * limit)
+      → Walked done (place + done * slide) from to stamps tokens
+  walked-start done one most inside w l t =
+      record {
+        here = w;
+        few = omega (arith, w .start, days-climb monthly place slide close done one most inside done (omega arith));
+        low = λ x. omega (arith, l x);
+        seen = λ x. omega (arith, t x, mul-le-mul-right {m = 1} {n = done + 1} limit (omega arith));
+      }
 
   -- behind n windows that are alike
   pub walked-leap : {looked k from to from′ to′ n : ℕ} {days stamps tokens stamps′ tokens′ : List ℕ} → Walked looked k from to stamps tokens
@@ -109,10 +117,14 @@ module _ (monthly : Bool) (span slide close place : ℕ) where
     pub record Kept (looked k : ℕ) : Type 0 where
       pub rest : left (placeDay monthly) span slide close f (close - placeDay monthly place - looked) k looked ≡ whole
 
-    pub kept-start : Kept 0 place
-    kept-start =
-        let n : close - placeDay monthly place - 0 ≡ close - placeDay monthly place = omega arith in
-        record { rest = rw n refl }
+    -- the first windows, which start in the period and have no offender, are counted and passed
+    pub kept-start : (done : ℕ) → 1 ≤ slide → close ≤ 36525 → ((j : ℕ) → j < done → placeDay monthly (place + j * slide) < close)
+        → ((j : ℕ) → j < done → f (placeDay monthly (place + j * slide)) (least (placeDay monthly (place + j * slide + span)) close) ≡ Nothing)
+        → Kept done (place + done * slide)
+    kept-start done one most inside none =
+        let m : done + (close - placeDay monthly place - done) ≡ close - placeDay monthly place = omega (arith, days-fit monthly place slide close done one most inside) in
+        let z : 0 + done ≡ done = omega arith in
+        record { rest = rw (z, m) at (left-leap (placeDay monthly) span slide close f done (close - placeDay monthly place - done) place 0 inside none) }
 
     module _ {looked k from to : ℕ} {stamps tokens : List ℕ} (s : Walked looked k from to stamps tokens) (w : Kept looked k) where
       -- the window has an offender, or none and the walk leaps over those alike, or the walk has come to the end

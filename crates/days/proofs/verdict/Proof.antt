@@ -5,19 +5,23 @@ use Rattle.days.proofs.Settling.{settled}
 use Rattle.days.proofs.verdict.Statement.{statement}
 use Rattle.days.proofs.verdict.Tie as tie
 
+-- from where the parameters are known back to the start
+abbrev entry : tie.After-shared-slice-known7 → tie.Start
+entry c = c .before .before .before .before .before .before .before
+
 prepare-requires : tie.Need-prepare-requires
 prepare-requires c κs =
-    let p = c .before .before .before .before .before .before .before .pre in
+    let p = entry c .pre in
     (steps-few _ (p .0), (p .2 .0, p .2 .1, p .2 .2, p .2 .5))
 
 prepare-referred-requires : tie.Need-prepare-referred-requires
 prepare-referred-requires c κs =
-    let p = c .before .before .before .before .before .before .before .before .pre in
+    let p = entry (c .before) .pre in
     (λ k. steps-few _ (p .1 k .0), (p .2 .0, p .2 .1, p .2 .2, p .2 .5))
 
 judge-requires : tie.Need-judge-requires
 judge-requires c κs =
-    let p = c .before .before .before .before .before .before .before .before .before .pre in
+    let p = entry (c .before .before) .pre in
     let own = c .before .prepare .ensures in
     let held = c .prepare-referred .ensures in
     let d = p .2 in
@@ -25,11 +29,11 @@ judge-requires c κs =
 
 returns : tie.Need-returns
 returns c =
-    let p = c .before .before .before .before .before .before .before .before .before .before .pre in
+    let p = entry (c .before .before .before) .pre in
     let own = c .before .before .prepare .ensures in
     let held = c .before .prepare-referred .ensures in
-    λ doc q t w d v ok k e.
-    c .judge .ensures doc q (settled e (λ g. p .1 g .1) (own .0 doc t w) (own .1 doc t) (held .0 doc t w) (held .1 doc t w) d v ok) k
+    λ doc q t w d v ok k e known.
+    c .judge .ensures doc q (settled e (λ g. p .1 g .1) (own .0 doc t w) (own .1 doc t) (held .0 doc t w) (held .1 doc t w) d v ok) k known
 
 pub verdict-spec : {M : Type 1} → statement M
 verdict-spec =

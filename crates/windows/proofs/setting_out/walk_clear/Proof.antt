@@ -17,7 +17,7 @@ entry c = c .before .before .before .before .before .before .before .before .bef
 walk-requires : tie.Need-walk-requires
 walk-requires c κs =
     let p = entry c .pre in
-    (p .0, p .1, lookable (p .2 .3) (p .2 .4))
+    (p .0, p .1, p .2, lookable (p .3 .3) (p .3 .4))
 
 returns : tie.Need-returns
 returns c = c .before .before .walk .ensures

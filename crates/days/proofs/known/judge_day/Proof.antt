@@ -1,0 +1,36 @@
+-- `days::known::judge_day` meets its contract: who offends among the versions alive offends on the day.
+use mathlib.Core.Path.{ap, _∙_}
+use Prim.Native.Nat.{ℕ}
+use borrow.Author.Needs.{needs}
+use Rattle.meaning.specs.declared.Found.{Found}
+use Rattle.days.proofs.Settling.{ready, posed, same-offender}
+use Rattle.days.proofs.known.judge_day.Statement.{statement}
+use Rattle.days.proofs.known.judge_day.Tie as tie
+
+-- from the last of the look's arguments back to the call of `terms`
+abbrev after-terms : tie.After-look-arg12 → tie.After-terms
+after-terms c = c .before .before .before .before .before .before .before .before .before .before .before .before .before .before
+
+-- from the call of `terms` back to the start
+abbrev entry : tie.After-terms → tie.Start
+entry c = c .before .before .before .before
+
+terms-requires : tie.Need-terms-requires
+terms-requires c κs = search needs
+
+look-requires : tie.Need-look-requires
+look-requires c κs =
+    let p = entry (after-terms c) .pre .1 in
+    let s = p .2 in
+    (p .0, _, s .other, ready (s .rowed) (s .periods) (s .represents), ready (s .other-rowed) (s .periods) (s .represents), s .judgeable .few)
+
+returns : tie.Need-returns
+returns c =
+    let there = after-terms (c .before) in
+    let f = entry there .pre .0 in
+    λ doc q s k.
+    c .look .ensures doc q _ (posed s f k (there .terms .ensures))
+    ∙ ap (λ (g : ℕ → Found). g (entry there .args .d)) (same-offender s f k)
+
+pub judge-day-spec : {M : Type 1} → statement M
+judge-day-spec = tie.close (tie.spec terms-requires look-requires returns)
