@@ -1,10 +1,12 @@
 -- What opened images are known to be: refused as both are read in turn, or both accepted, with the first one's document in the columns.
 use mathlib.Core.Path.{_≡_, refl, sym, ap, _∙_}
+use mathlib.Core.Bool.{Bool}
 use mathlib.Core.List.{List}
-use Prim.Native.Nat.{ℕ}
-use lib.ListN.{length}
+use Prim.Native.Nat.{ℕ, _-_}
+use lib.ListN.{length, take}
 use Rattle.meaning.specs.declared.Reading.{Reading}
 use Rattle.meaning.specs.declared.Reading.the-variants.{Accepted, Refused}
+use Rattle.meaning.specs.Document.{Doc}
 use Rattle.meaning.specs.Order.{andThen}
 use Rattle.meaning.specs.Nodes.{nodesOf, docOf, readNodes}
 use Rattle.meaning.specs.Rules.{readRules}
@@ -12,8 +14,8 @@ use Rattle.meaning.proofs.Orders.{contrary, then-accepted}
 use Rattle.columns.specs.declared.Loaded.{Loaded}
 use Rattle.columns.specs.declared.Loaded.the-variants.{Nodes, Refused as Unloaded}
 use Rattle.columns.specs.declared.Columns.{Columns}
-use Rattle.columns.specs.Lent.{Fronts}
-use Rattle.values.specs.Represents.{Represents}
+use Rattle.columns.specs.Lent.{Values, Periods, Numbers, Fronts}
+use Rattle.survey.specs.Surveyed.{Surveyed}
 use Rattle.nodes.specs.Loading.{loaded, tellLoaded}
 use Rattle.nodes.specs.Unpacking.{Unpacks, together}
 use Rattle.rules.specs.Promises.{RulesPromise}
@@ -86,8 +88,20 @@ module _ {nodes : List ℕ} (rules : List ℕ) {c : Columns} where
       abbrev pub open-fronts : Fronts n (c .kind) (c .vkind) (c .name) (c .parent) (c .begin) (c .end) (c .value) (c .item)
       open-fronts = fronts (o .columns) alone
 
-      pub opened : {reps : List ℕ} → Represents (docOf nodes) reps → Open nodes rules n (c .kind) (c .vkind) (c .name) (c .parent) (c .begin) (c .end) (c .value) (c .item) reps
-      opened p = record { accepted = accepted-both .0; table = accepted-both .1; fronts = open-fronts; document = refl; represents = p }
+      -- what a survey of every document in the fronts is, it is of this one
+      pub opened : {reps groups opens closes : List ℕ} {many : ℕ} {sound : Bool}
+          → ((doc : Doc) → Values doc (take (n - 0) (c .kind)) (take (n - 0) (c .vkind)) (take (n - 0) (c .value)) → Periods doc (take (n - 0) (c .begin)) (take (n - 0) (c .end))
+          → Numbers doc (take (n - 0) (c .kind)) (take (n - 0) (c .parent)) (take (n - 0) (c .item)) → Surveyed doc (take (n - 0) (c .begin)) (take (n - 0) (c .end)) reps groups opens closes many sound)
+          → Open nodes rules n (c .kind) (c .vkind) (c .name) (c .parent) (c .begin) (c .end) (c .value) (c .item) reps groups opens closes many sound
+      opened s =
+          let w = open-fronts .whole in
+          record {
+            accepted = accepted-both .0;
+            table = accepted-both .1;
+            fronts = open-fronts;
+            document = refl;
+            surveyed = s (open-fronts .doc) (w .values-held) (w .periods) (w .numbers);
+          }
 
 -- what came of both images, known without laying the columns anew
 module _ {nodes : List ℕ} (rules : List ℕ) {c : Columns} (u : Unpacks nodes c) {l : Loaded} (el : l ≡ afterRules (c .loaded) (readRules rules)) where

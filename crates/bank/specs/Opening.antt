@@ -1,9 +1,10 @@
 -- Two images opened: what came of both, and the columns of the first; and what is asked of columns on which rules are judged.
 use mathlib.Core.Path.{_≡_}
+use mathlib.Core.Bool.{Bool}
 use mathlib.Core.List.{List}
-use Prim.Native.Nat.{ℕ}
+use Prim.Native.Nat.{ℕ, _-_}
 use lib.IntN.{ℤ}
-use lib.ListN.{length}
+use lib.ListN.{length, take}
 use Rattle.meaning.specs.declared.Reading.{Reading}
 use Rattle.meaning.specs.declared.Reading.the-variants.{Accepted}
 use Rattle.meaning.specs.Order.{andThen}
@@ -15,7 +16,7 @@ use Rattle.columns.specs.declared.Columns.{Columns}
 use Rattle.columns.specs.Lent.{Fronts}
 use Rattle.nodes.specs.Loading.{loaded, tellLoaded}
 use Rattle.nodes.specs.Unpacking.{Unpacks, together}
-use Rattle.values.specs.Represents.{Represents}
+use Rattle.survey.specs.Surveyed.{Surveyed}
 
 -- what came of a node image, then of a table
 abbrev pub afterRules : Loaded → Reading → Loaded
@@ -28,10 +29,10 @@ pub record Opens (nodes rules : List ℕ) (c : Columns) : Type 0 where
   pub columns : Unpacks nodes (together nodes-alone (c .kind) (c .vkind) (c .name) (c .parent) (c .begin) (c .end) (c .value) (c .item))
   pub answer : tellLoaded (c .loaded) ≡ tellLoaded (loaded (andThen (readNodes nodes) (readRules rules)) (length (nodesOf nodes)))
 
--- both images are accepted, the first n entries of the columns hold the records of the first, and its values are represented
-pub record Open (nodes rules : List ℕ) (n : ℕ) (kinds vkinds names parents begins ends : List ℕ) (values : List ℤ) (items reps : List ℕ) : Type 0 where
+-- both images are accepted, the first n entries of the columns hold the records of the first, and they are surveyed
+pub record Open (nodes rules : List ℕ) (n : ℕ) (kinds vkinds names parents begins ends : List ℕ) (values : List ℤ) (items reps groups opens closes : List ℕ) (many : ℕ) (sound : Bool) : Type 0 where
   pub accepted : readNodes nodes ≡ Accepted
   pub table : readRules rules ≡ Accepted
   pub fronts : Fronts n kinds vkinds names parents begins ends values items
   pub document : fronts .doc ≡ docOf nodes
-  pub represents : Represents (docOf nodes) reps
+  pub surveyed : Surveyed (docOf nodes) (take (n - 0) begins) (take (n - 0) ends) reps groups opens closes many sound

@@ -43,7 +43,7 @@ pub fn change_days(nodes: &[u8], rules: &[u8], rule: usize, out: &mut [u16]) -> 
     }
 }
 
-// The verdict on a rule of opened images: 11 where there is no such rule; then a representative is found for each value.
+// The verdict on a rule of opened images: 11 where there is no such rule; then the columns are surveyed.
 fn judge(columns: Columns, n: usize, rules: &[u8], rule: usize) -> Verdict
     requires { ⌜ ((nodes : List ℕ) × Opens nodes (now rules) columns) × (columns .loaded ≡ Nodes n) ⌝ }
     ensures { λ r. ⌜ ((nodes : List ℕ) → Opens nodes (now (rules .entry)) columns → VerdictPromise nodes (now (rules .entry)) rule r) ⌝ }
@@ -51,7 +51,16 @@ fn judge(columns: Columns, n: usize, rules: &[u8], rule: usize) -> Verdict
     if rules::count_rules(rules) <= rule {
         return Verdict::Refused(11, 0);
     }
-    let rep = opened::represent(n, &columns.kind, &columns.vkind, &columns.value);
+    let found = opened::survey(
+        n,
+        &columns.kind,
+        &columns.vkind,
+        &columns.parent,
+        &columns.begin,
+        &columns.end,
+        &columns.value,
+        &columns.item,
+    );
     opened::verdict_of(
         n,
         &columns.kind,
@@ -62,7 +71,12 @@ fn judge(columns: Columns, n: usize, rules: &[u8], rule: usize) -> Verdict
         &columns.end,
         &columns.value,
         &columns.item,
-        &rep,
+        &found.rep,
+        &found.group,
+        &found.opens,
+        &found.closes,
+        found.many,
+        found.sound,
         rules,
         rule,
     )

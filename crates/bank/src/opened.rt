@@ -1,19 +1,19 @@
 // The answers over opened images: what the calls on images, and a report on many rules, ask of columns and an accepted table.
 use columns::Columns;
-use columns::LIMIT;
 use meaning::Listed;
 use meaning::Verdict;
+use survey::Survey;
 ghost use mathlib.Core.Path.{_≡_};
 ghost use mathlib.Core.List.{List};
 ghost use Prim.Native.Nat.{ℕ, _-_, _≤_, _<_};
 ghost use lib.ListN.{length, take};
-ghost use Rattle.meaning.specs.Block.{limit};
 ghost use Rattle.meaning.specs.Document.{Doc};
 ghost use Rattle.meaning.specs.Rules.{rulesOf};
-ghost use Rattle.columns.specs.Lent.{Values};
+ghost use Rattle.columns.specs.Lent.{Values, Periods, Numbers};
+ghost use Rattle.columns.specs.Judgeable.{Judgeable};
 ghost use Rattle.columns.specs.declared.Loaded.the-variants.{Nodes};
 ghost use Rattle.nodes.specs.Unpacking.{Unpacks};
-ghost use Rattle.values.specs.Represents.{Represents};
+ghost use Rattle.survey.specs.Surveyed.{Surveyed};
 ghost use Rattle.bank.specs.Opening.{Opens, Open};
 ghost use Rattle.bank.specs.Promises.{VerdictPromise, SlicePromise, ChangesPromise};
 
@@ -55,16 +55,33 @@ pub fn changes_of(columns: Columns, n: usize, rules: &[u8], rule: usize, out: &m
     lists::turning::changes_front(n, &kind, &name, &parent, &begin, &end, q, r, out)
 }
 
-// A representative for each value in the first n entries of the columns, found once for all rules. Cost: as `values::represent`.
-pub fn represent<'a>(n: usize, kind: &'a [u8], vkind: &'a [u8], value: &'a [i32]) -> [u16; LIMIT]
-    requires { ⌜ (n ≤ length (now kind)) × (n ≤ length (now vkind)) × (n ≤ length (now value)) × ((doc : Doc) × Values doc (take (n - 0) (now kind)) (take (n - 0) (now vkind)) (take (n - 0) (now value)) × (doc .size ≤ limit)) ⌝ }
-    ensures { λ r. ⌜ ((doc : Doc) → Values doc (take (n - 0) (now (kind .entry))) (take (n - 0) (now (vkind .entry))) (take (n - 0) (now (value .entry))) → Represents doc r) ⌝ }
+// The survey of the first n entries of the columns, made once for all rules. Cost: as `survey::survey_columns`.
+pub fn survey<'a>(
+    n: usize,
+    kind: &'a [u8],
+    vkind: &'a [u8],
+    parent: &'a [u16],
+    begin: &'a [u16],
+    end: &'a [u16],
+    value: &'a [i32],
+    item: &'a [u32],
+) -> Survey
+    requires { ⌜ (n ≤ length (now kind)) × (n ≤ length (now vkind)) × (n ≤ length (now parent)) × (n ≤ length (now begin)) × (n ≤ length (now end)) × (n ≤ length (now value)) × (n ≤ length (now item)) × ((doc : Doc) × Values doc (take (n - 0) (now kind)) (take (n - 0) (now vkind)) (take (n - 0) (now value)) × Periods doc (take (n - 0) (now begin)) (take (n - 0) (now end)) × Numbers doc (take (n - 0) (now kind)) (take (n - 0) (now parent)) (take (n - 0) (now item)) × Judgeable doc) ⌝ }
+    ensures { λ r. ⌜ ((doc : Doc) → Values doc (take (n - 0) (now (kind .entry))) (take (n - 0) (now (vkind .entry))) (take (n - 0) (now (value .entry))) → Periods doc (take (n - 0) (now (begin .entry))) (take (n - 0) (now (end .entry))) → Numbers doc (take (n - 0) (now (kind .entry))) (take (n - 0) (now (parent .entry))) (take (n - 0) (now (item .entry))) → Surveyed doc (take (n - 0) (now (begin .entry))) (take (n - 0) (now (end .entry))) (r .rep) (r .group) (r .opens) (r .closes) (r .many) (r .sound)) ⌝ }
 {
-    values::represent(&kind[0..n], &vkind[0..n], &value[0..n])
+    survey::survey_columns(
+        &kind[0..n],
+        &vkind[0..n],
+        &parent[0..n],
+        &begin[0..n],
+        &end[0..n],
+        &value[0..n],
+        &item[0..n],
+    )
 }
 
-// The verdict on rule k of the table, over the first n entries of the columns, with a representative for each value. Cost: reading the rule, and the rule that it refers to, from the table; then the verdict on days or in windows.
-pub fn verdict_of<'a>(
+// The verdict on rule k of the table, over the first n entries of the columns, with their survey. Cost: reading the rule, and the rule that it refers to, from the table; then the verdict on days or in windows.
+pub fn verdict_of<'a, 'b>(
     n: usize,
     kind: &'a [u8],
     vkind: &'a [u8],
@@ -74,12 +91,17 @@ pub fn verdict_of<'a>(
     end: &'a [u16],
     value: &'a [i32],
     item: &'a [u32],
-    rep: &[u16],
+    rep: &'b [u16],
+    group: &'b [u16],
+    opens: &'b [u16],
+    closes: &'b [u16],
+    many: usize,
+    sound: bool,
     rules: &[u8],
     k: usize,
 ) -> Verdict
-    requires { ⌜ (k < length (rulesOf (now rules))) × ((nodes : List ℕ) × Open nodes (now rules) n (now kind) (now vkind) (now name) (now parent) (now begin) (now end) (now value) (now item) (now rep)) ⌝ }
-    ensures { λ x. ⌜ ((nodes : List ℕ) → Open nodes (now (rules .entry)) n (now (kind .entry)) (now (vkind .entry)) (now (name .entry)) (now (parent .entry)) (now (begin .entry)) (now (end .entry)) (now (value .entry)) (now (item .entry)) (now (rep .entry)) → VerdictPromise nodes (now (rules .entry)) k x) ⌝ }
+    requires { ⌜ (k < length (rulesOf (now rules))) × ((nodes : List ℕ) × Open nodes (now rules) n (now kind) (now vkind) (now name) (now parent) (now begin) (now end) (now value) (now item) (now rep) (now group) (now opens) (now closes) many sound) ⌝ }
+    ensures { λ x. ⌜ ((nodes : List ℕ) → Open nodes (now (rules .entry)) n (now (kind .entry)) (now (vkind .entry)) (now (name .entry)) (now (parent .entry)) (now (begin .entry)) (now (end .entry)) (now (value .entry)) (now (item .entry)) (now (rep .entry)) (now (group .entry)) (now (opens .entry)) (now (closes .entry)) many sound → VerdictPromise nodes (now (rules .entry)) k x) ⌝ }
 {
     let r = rules::rule_at(rules, k);
     let q = rules::referred_rule(rules, k);
@@ -94,6 +116,11 @@ pub fn verdict_of<'a>(
         value,
         item,
         rep,
+        group,
+        opens,
+        closes,
+        many,
+        sound,
         q,
         r,
     )

@@ -1,2 +1,3 @@
 -- The laws behind the verdict on one rule.
 pub mod Modes
+pub mod Joining

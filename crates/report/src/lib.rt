@@ -17,7 +17,7 @@ ghost use Rattle.report.specs.Text.{ruleLines, reportOf};
 pub const ROOM: usize = 31 + 90 * (block::RULES.each * block::RULES.most);
 
 // A line for each rule. Cost: the verdict on each.
-fn put_rules<'a>(
+fn put_rules<'a, 'b>(
     text: &mut [u8],
     at: usize,
     rules: &[u8],
@@ -30,15 +30,20 @@ fn put_rules<'a>(
     end: &'a [u16],
     value: &'a [i32],
     item: &'a [u32],
-    rep: &[u16],
+    rep: &'b [u16],
+    group: &'b [u16],
+    opens: &'b [u16],
+    closes: &'b [u16],
+    many: usize,
+    sound: bool,
 ) -> usize
-    requires { ⌜ ((nodes : List ℕ) × Open nodes (now rules) n (now kind) (now vkind) (now name) (now parent) (now begin) (now end) (now value) (now item) (now rep)) ⌝ }
-    ensures { λ r. ⌜ ((nodes : List ℕ) → Open nodes (now (rules .entry)) n (now (kind .entry)) (now (vkind .entry)) (now (name .entry)) (now (parent .entry)) (now (begin .entry)) (now (end .entry)) (now (value .entry)) (now (item .entry)) (now (rep .entry)) → Puts (now (text .entry)) at (ruleLines (verdict nodes (now (rules .entry))) 0 (length (rulesOf (now (rules .entry))))) (now (text .exit)) r) ⌝ }
+    requires { ⌜ ((nodes : List ℕ) × Open nodes (now rules) n (now kind) (now vkind) (now name) (now parent) (now begin) (now end) (now value) (now item) (now rep) (now group) (now opens) (now closes) many sound) ⌝ }
+    ensures { λ r. ⌜ ((nodes : List ℕ) → Open nodes (now (rules .entry)) n (now (kind .entry)) (now (vkind .entry)) (now (name .entry)) (now (parent .entry)) (now (begin .entry)) (now (end .entry)) (now (value .entry)) (now (item .entry)) (now (rep .entry)) (now (group .entry)) (now (opens .entry)) (now (closes .entry)) many sound → Puts (now (text .entry)) at (ruleLines (verdict nodes (now (rules .entry))) 0 (length (rulesOf (now (rules .entry))))) (now (text .exit)) r) ⌝ }
 {
-    let many = rules::count_rules(rules);
+    let all = rules::count_rules(rules);
     let mut to = at;
     let mut k = 0;
-    while k < many {
+    while k < all {
         let found = bank::opened::verdict_of(
             n,
             kind,
@@ -50,6 +55,11 @@ fn put_rules<'a>(
             value,
             item,
             rep,
+            group,
+            opens,
+            closes,
+            many,
+            sound,
             rules,
             k,
         );
@@ -59,13 +69,22 @@ fn put_rules<'a>(
     to
 }
 
-// The header and the lines, on both images accepted: the values are compared once for all rules.
+// The header and the lines, on both images accepted: the columns are surveyed once for all rules.
 fn put_table(text: &mut [u8], rules: &[u8], columns: Columns, n: usize) -> usize
     requires { ⌜ ((nodes : List ℕ) × Opens nodes (now rules) columns) × (columns .loaded ≡ Nodes n) ⌝ }
     ensures { λ r. ⌜ ((nodes : List ℕ) → Opens nodes (now (rules .entry)) columns → Puts (now (text .entry)) 0 (reportOf nodes (now (rules .entry))) (now (text .exit)) r) ⌝ }
 {
     let at = spelling::lines::put_header(text);
-    let rep = bank::opened::represent(n, &columns.kind, &columns.vkind, &columns.value);
+    let found = bank::opened::survey(
+        n,
+        &columns.kind,
+        &columns.vkind,
+        &columns.parent,
+        &columns.begin,
+        &columns.end,
+        &columns.value,
+        &columns.item,
+    );
     put_rules(
         text,
         at,
@@ -79,7 +98,12 @@ fn put_table(text: &mut [u8], rules: &[u8], columns: Columns, n: usize) -> usize
         &columns.end,
         &columns.value,
         &columns.item,
-        &rep,
+        &found.rep,
+        &found.group,
+        &found.opens,
+        &found.closes,
+        found.many,
+        found.sound,
     )
 }
 

@@ -14,16 +14,16 @@ use Rattle.report.proofs.put_rules.Statement.{statement}
 use Rattle.report.proofs.put_rules.Tie as tie
 
 abbrev Inv-loop : tie.InvT-loop
-Inv-loop text₀ at rules n kind vkind name parent begin end value item rep many to₀ k₀ text to k =
-    (length text ≡ length text₀) × (k ≤ many)
-    × ((nodes : List ℕ) → Open nodes rules n kind vkind name parent begin end value item rep → Puts text₀ at (ruleLines (verdict nodes rules) 0 k) text to)
+Inv-loop text₀ at rules n kind vkind name parent begin end value item rep group opens closes many sound all to₀ k₀ text to k =
+    (length text ≡ length text₀) × (k ≤ all)
+    × ((nodes : List ℕ) → Open nodes rules n kind vkind name parent begin end value item rep group opens closes many sound → Puts text₀ at (ruleLines (verdict nodes rules) 0 k) text to)
 
 abbrev μ-loop : tie.MeasureT-loop
-μ-loop text₀ at rules n kind vkind name parent begin end value item rep many to₀ k₀ text to k = many - k
+μ-loop text₀ at rules n kind vkind name parent begin end value item rep group opens closes many sound all to₀ k₀ text to k = all - k
 
 -- from what is known of the parameters back to the start
-abbrev start : tie.After-shared-slice-known9 Inv-loop μ-loop → tie.Start Inv-loop μ-loop
-start c = c .before .before .before .before .before .before .before .before .before .before
+abbrev start : tie.After-shared-slice-known12 Inv-loop μ-loop → tie.Start Inv-loop μ-loop
+start c = c .before .before .before .before .before .before .before .before .before .before .before .before .before
 
 -- from a line that was put back to the verdict that it tells
 abbrev found : tie.After-put-rule Inv-loop μ-loop → tie.After-verdict-of Inv-loop μ-loop
@@ -51,10 +51,11 @@ loop-again : tie.Need-loop-again Inv-loop μ-loop
 loop-again c =
     let line = c .before .before in
     let v = found line in
-    let l = v .before .before .loop in (
+    let head = v .before .before in
+    let l = head .loop in (
       search needs,
       search needs,
-      λ nodes o. rules-more _ (l .k) (l .inv .2 nodes o) (line .put-rule .ensures) (promised nodes _ _ (v .verdict-of .ensures nodes o)),
+      λ nodes o. rules-more _ (l .k) (l .inv .2 nodes o) (line .put-rule .ensures) (promised nodes (start (head .before .before) .args .rules .now) (l .k) (v .verdict-of .ensures nodes o)),
     )
 
 same-length : tie.Need-same-length Inv-loop μ-loop

@@ -1,4 +1,4 @@
--- `report::put_table` meets its contract: the header, then the lines of what was opened, its values represented.
+-- `report::put_table` meets its contract: the header, then the lines of what was opened, with its survey.
 use borrow.Author.Needs.{needs}
 use Rattle.bank.proofs.Opens.{open-fronts, opened}
 use Rattle.spelling.proofs.Pieces.{puts-as, puts-then}
@@ -10,54 +10,44 @@ use Rattle.report.proofs.put_table.Tie as tie
 abbrev start : tie.After-put-header → tie.Start
 start c = c .before .before .before .before
 
--- from what is asked of the values back to the header
-abbrev headed : tie.After-represent-arg6 → tie.After-put-header
-headed c = c .before .before .before .before .before .before .before .before .before
+-- from the columns lent to `survey` back to the header
+abbrev headed : tie.After-survey-arg14 → tie.After-put-header
+headed c = c .before .before .before .before .before .before .before .before .before .before .before .before .before .before .before .before .before
 
--- from the columns that are lent back to the representatives
-abbrev represented : tie.After-rep → tie.After-represent
-represented c = c .before .before .before .before .before .before .before .before .before .before .before .before .before .before .before .before .before .before .before
+-- from all that is lent to `put_rules` back to the survey
+abbrev surveyed : tie.After-put-rules-arg25 → tie.After-survey
+surveyed c = c .before .before .before .before .before .before .before .before .before .before .before .before .before .before .before .before .before .before .before .before .before .before .before .before .before .before .before
 
 put-header-requires : tie.Need-put-header-requires
 put-header-requires c κs = search needs
 
-represent-requires : tie.Need-represent-requires
-represent-requires c κs =
+survey-requires : tie.Need-survey-requires
+survey-requires c κs =
     let p = start (headed c) .pre in
     let f = open-fronts _ (p .0 .1) (p .1) in
-    (f .kind, f .vkind, f .value, (f .doc, f .whole .values-held, f .whole .judgeable .few))
-
-slice-aggregate-put-rules : tie.Need-slice-aggregate-put-rules
-slice-aggregate-put-rules c = search needs
+    let w = f .whole in
+    (f .kind, f .vkind, f .parent, f .begin, f .end, f .value, f .item, (f .doc, w .values-held, w .periods, w .numbers, w .judgeable))
 
 put-rules-requires : tie.Need-put-rules-requires
 put-rules-requires c κs =
-    let r = represented c in
-    let p = start (headed (r .before)) .pre in
-    let f = open-fronts _ (p .0 .1) (p .1) in
-    (p .0 .0, opened _ (p .0 .1) (p .1) (r .represent .ensures (f .doc) (f .whole .values-held)))
+    let s = surveyed c in
+    let p = start (headed (s .before)) .pre in
+    (p .0 .0, opened _ (p .0 .1) (p .1) (s .survey .ensures))
 
 same-length : tie.Need-same-length
 same-length c =
     let lines = c .before .before in
-    search (needs, headed (represented (lines .before) .before) .put-header .kept, lines .put-rules .kept)
+    search (needs, headed (surveyed (lines .before) .before) .put-header .kept, lines .put-rules .kept)
 
 returns : tie.Need-returns
 returns c nodes o =
     let lines = c .before .before in
-    let r = represented (lines .before) in
-    let head = headed (r .before) in
+    let s = surveyed (lines .before) in
+    let head = headed (s .before) in
     let loaded = start head .pre .1 in
-    let f = open-fronts _ o loaded in
-    puts-as (puts-then (head .put-header .ensures) (lines .put-rules .ensures nodes (opened _ o loaded (r .represent .ensures (f .doc) (f .whole .values-held))))) (accepted-images nodes _ o loaded)
+    puts-as (puts-then (head .put-header .ensures) (lines .put-rules .ensures nodes (opened _ o loaded (s .survey .ensures)))) (accepted-images nodes _ o loaded)
 
 pub put-table-spec : {M : Type 1} → statement M
 put-table-spec =
     tie.close
-    (tie.spec
-    put-header-requires
-    represent-requires
-    slice-aggregate-put-rules
-    put-rules-requires
-    same-length
-    returns)
+    (tie.spec put-header-requires survey-requires put-rules-requires same-length returns)

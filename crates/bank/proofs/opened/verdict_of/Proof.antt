@@ -6,8 +6,8 @@ use Rattle.bank.proofs.opened.verdict_of.Statement.{statement}
 use Rattle.bank.proofs.opened.verdict_of.Tie as tie
 
 -- from the slices, all known, back to the start
-abbrev start : tie.After-shared-slice-known9 → tie.Start
-start c = c .before .before .before .before .before .before .before .before .before
+abbrev start : tie.After-shared-slice-known12 → tie.Start
+start c = c .before .before .before .before .before .before .before .before .before .before .before .before
 
 rule-at-requires : tie.Need-rule-at-requires
 rule-at-requires c κs =
@@ -24,7 +24,7 @@ judge-front-requires c κs =
     let o = s .pre .1 .1 in (
       fields-of (s .args .rules .now) (o .table) (s .args .k) (s .pre .0) (r .rule-at .ensures),
       fields-referred (s .args .rules .now) (o .table) (s .args .k) (s .pre .0) (r .rule-at .ensures) (c .referred-rule .ensures),
-      (o .fronts, rw (o .document) (o .represents)),
+      (o .fronts, rw (o .document) (o .surveyed)),
     )
 
 returns : tie.Need-returns
@@ -32,7 +32,7 @@ returns c nodes o =
     let q = c .before in
     let r = q .before in
     rule-judged nodes _ _ (o .accepted) (o .table) (start (r .before) .pre .0) (r .rule-at .ensures) (q .referred-rule .ensures)
-    (λ p e. rw (o .document) at (c .judge-front .ensures (o .fronts .doc) p (o .fronts .whole) (rw (o .document) (o .represents)) e))
+    (λ p e. rw (o .document) at (c .judge-front .ensures (o .fronts .doc) p (o .fronts .whole) (rw (o .document) (o .surveyed)) e))
 
 pub verdict-of-spec : {M : Type 1} → statement M
 verdict-of-spec =
