@@ -1,6 +1,4 @@
 -- What is found once for a document, for all its rules: representatives, classes, and the versions in two orders.
-use mathlib.Core.Path.{_≡_}
-use mathlib.Core.Bool.{Bool, true}
 use mathlib.Core.List.{List}
 use Prim.Native.Nat.{ℕ, _≤_}
 use lib.ListN.{length}
@@ -10,12 +8,12 @@ use Rattle.values.specs.Represents.{Represents}
 use Rattle.groups.specs.Groups.{Groups}
 use Rattle.orders.specs.Order.{InOrder}
 
--- a representative for each value and a class for each item number; and, where `sound` is true, the versions by their begins and by their ends
-pub record Surveyed (doc : Doc) (begins ends reps groups opens closes : List ℕ) (many : ℕ) (sound : Bool) : Type 0 where
+-- a representative for each value, a class for each item number, and the versions by their begins and by their ends
+pub record Surveyed (doc : Doc) (begins ends reps groups opens closes : List ℕ) (many : ℕ) : Type 0 where
   pub represents : Represents doc reps
   pub classes : Groups doc groups
   pub few : many ≤ limit
   pub opens-room : many ≤ length opens
   pub closes-room : many ≤ length closes
-  pub opened : sound ≡ true → InOrder (isVersion doc) begins opens many
-  pub closed : sound ≡ true → InOrder (isVersion doc) ends closes many
+  pub opened : InOrder (isVersion doc) begins opens many
+  pub closed : InOrder (isVersion doc) ends closes many

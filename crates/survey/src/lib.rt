@@ -8,12 +8,10 @@ ghost use Rattle.columns.specs.Lent.{Values, Periods, Numbers};
 ghost use Rattle.columns.specs.Judgeable.{Judgeable};
 ghost use Rattle.survey.specs.Surveyed.{Surveyed};
 
-// The representatives and the classes; whether the two orders passed their tests, how many versions are in each, and their numbers by begin
-// and by end. Where `sound` is false nothing is said of the orders.
+// The representatives and the classes; how many versions there are, and their numbers by begin and by end.
 pub struct Survey {
     pub rep: [u16; LIMIT],
     pub group: [u16; LIMIT],
-    pub sound: bool,
     pub many: usize,
     pub opens: [u16; LIMIT],
     pub closes: [u16; LIMIT],
@@ -30,7 +28,7 @@ pub fn survey_columns(
     item: &[u32],
 ) -> Survey
     requires { ⌜ ((doc : Doc) × Values doc (now kind) (now vkind) (now value) × Periods doc (now begin) (now end) × Numbers doc (now kind) (now parent) (now item) × Judgeable doc) ⌝ }
-    ensures { λ r. ⌜ ((doc : Doc) → Values doc (now (kind .entry)) (now (vkind .entry)) (now (value .entry)) → Periods doc (now (begin .entry)) (now (end .entry)) → Numbers doc (now (kind .entry)) (now (parent .entry)) (now (item .entry)) → Surveyed doc (now (begin .entry)) (now (end .entry)) (r .rep) (r .group) (r .opens) (r .closes) (r .many) (r .sound)) ⌝ }
+    ensures { λ r. ⌜ ((doc : Doc) → Values doc (now (kind .entry)) (now (vkind .entry)) (now (value .entry)) → Periods doc (now (begin .entry)) (now (end .entry)) → Numbers doc (now (kind .entry)) (now (parent .entry)) (now (item .entry)) → Surveyed doc (now (begin .entry)) (now (end .entry)) (r .rep) (r .group) (r .opens) (r .closes) (r .many)) ⌝ }
 {
     let rep = values::represent(kind, vkind, value);
     let group = groups::group(kind, parent, item);
@@ -39,11 +37,9 @@ pub fn survey_columns(
     let opens = begins.order;
     let closes = ends.order;
     let many = begins.many;
-    let sound = begins.sound & ends.sound & (ends.many == many);
     Survey {
         rep,
         group,
-        sound,
         many,
         opens,
         closes,

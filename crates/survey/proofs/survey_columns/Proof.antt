@@ -16,13 +16,9 @@ versions-by-requires c κs = search needs
 versions-by-requires-2 : tie.Need-versions-by-requires-2
 versions-by-requires-2 c κs = search needs
 
--- from the last struct that is known back to the second order
-abbrev ordered : tie.After-struct-known3 → tie.After-versions-by2
-ordered c = c .before .before .before .before .before
-
 returns : tie.Need-returns
 returns c doc v p n =
-    let ends = ordered c in
+    let ends = c .before .before in
     let begins = ends .before in
     let classes = begins .before in
     let o = begins .versions-by .ensures in
