@@ -8,16 +8,21 @@ use native.Mathlib.Omega.{arith}
 use Rattle.meaning.specs.Window.{least}
 use Rattle.meaning.proofs.Basics.{le-or-lt}
 use Rattle.places.specs.declared.Places.{Places}
-use Rattle.places.specs.Placing.{unitDay, startOf, endOf, Counted, Low, High}
-use Rattle.places.specs.Earlier.{Starting}
+use Rattle.places.specs.Placing.{unitDay, calendarDay, startOf, endOf, naturalOf, Counted, Low, High}
+use Rattle.places.specs.Earlier.{Starting, Ending}
 use Rattle.places.specs.Made.{Small}
 use Rattle.places.proofs.Days.{days-rise, least-left, least-right, least-most, least-first, least-above}
 
--- places of small numbers, with as many as start before the close
-pub counted-made : {monthly : Bool} {first span slide close count : ℕ} → Small first span slide close → Starting monthly first slide close count
-    → Counted (record { monthly = monthly; first = first; span = span; slide = slide; close = close; count = count })
-unfolding startOf
-counted-made s b =
+-- a place ends by its length a span after its first unit, and that is a slide after the end of the place before
+by-span : (monthly : Bool) (first span slide k : ℕ) → calendarDay monthly (first + k * slide + span) ≡ calendarDay monthly (first + span + k * slide)
+by-span monthly first span slide k = ap (calendarDay monthly) (omega arith)
+
+-- places of small numbers, with as many as start before the close, and as many whole as end by it of themselves
+pub counted-made : {monthly : Bool} {first span slide close count ended whole : ℕ} → Small first span slide close → Starting monthly first slide close count
+    → Ending monthly (first + span) slide close ended → whole ≡ least ended count
+    → Counted (record { monthly = monthly; first = first; span = span; slide = slide; close = close; count = count; whole = whole })
+unfolding startOf naturalOf
+counted-made {monthly = monthly} {first = first} {span = span} {slide = slide} {count = count} {ended = ended} s b e w =
     record {
       first-most = s .first-most;
       span-least = s .span-least;
@@ -28,6 +33,13 @@ counted-made s b =
       count-most = b .most;
       inside = b .within;
       over = b .past;
+      whole-most = omega (arith, least-most ended count);
+      ended = λ k h. omega (arith, by-span monthly first span slide k, e .within k (omega (arith, least-first ended count)));
+      shortened = λ k h l.
+          ⊎-elim
+          (λ m. omega (arith, by-span monthly first span slide k, e .past k (omega (arith, least-left ended count m))))
+          (λ m. absurd (omega (arith, least-right ended count m)))
+          (le-or-lt ended count);
     }
 
 module _ (at : Places) (n : Counted at) where

@@ -4,7 +4,7 @@ use mathlib.Core.Bool.{Bool}
 use Prim.Native.Nat.{ℕ, _+_, _-_, _*_, _/_, _≤_, _<_}
 use native.Mathlib.Nat.{le-div-iff-mul-le, div-le-self}
 use native.Mathlib.Omega.{arith}
-use Rattle.places.specs.Earlier.{Before, Steps, Starting}
+use Rattle.places.specs.Earlier.{Before, Steps, Starting, By, Ending}
 
 -- THE DIVISION: k of a slide s fit into x exactly when k is no more than x / s
 pub fitting : (k x s : ℕ) → 1 ≤ s → (k < x / s + 1) ↔ (k * s ≤ x)
@@ -30,6 +30,14 @@ pub starting-by : {monthly : Bool} {from slide day u n : ℕ} → Before monthly
 starting-by {from = from} {slide = slide} b s =
     record {
       most = omega (arith, b .most, s .most);
+      within = λ k h. b .within (from + k * slide) (s .within k h);
+      past = λ k h. b .past (from + k * slide) (s .past k h);
+    }
+
+-- and by a day as their numbers lie below that of the units that start by it
+pub ending-by : {monthly : Bool} {from slide day u n : ℕ} → By monthly day u → Steps from slide u n → Ending monthly from slide day n
+ending-by {from = from} {slide = slide} b s =
+    record {
       within = λ k h. b .within (from + k * slide) (s .within k h);
       past = λ k h. b .past (from + k * slide) (s .past k h);
     }

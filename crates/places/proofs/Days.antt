@@ -1,16 +1,16 @@
 -- The days of units: they rise, and how many start before a day; and the lesser of two days.
-use mathlib.Core.Path.{_≡_, sym}
+use mathlib.Core.Path.{_≡_, sym, ap}
 use mathlib.Core.Logic.{⊎-elim}
 use mathlib.Core.Bool.{Bool, true, false}
-use Prim.Native.Nat.{ℕ, _≤_, _<_}
+use Prim.Native.Nat.{ℕ, _+_, _≤_, _<_}
 use native.Mathlib.Omega.{arith}
 use borrow.Author.Tests.{le-leb, lt-leb}
-use Rattle.calendar.specs.Gregorian.{monthStart}
-use Rattle.calendar.proofs.Months.{start-rises, start-past}
+use Rattle.calendar.specs.Gregorian.{monthStart, monthDay}
+use Rattle.calendar.proofs.Months.{start-rises, start-past, start-in, month-ascends}
 use Rattle.meaning.specs.Window.{least}
 use Rattle.meaning.proofs.Basics.{le-or-lt}
 use Rattle.places.specs.Placing.{unitDay}
-use Rattle.places.specs.Earlier.{Before}
+use Rattle.places.specs.Earlier.{Before, By}
 
 -- the day of a unit, by what was looked up
 pub day-month : (monthly : Bool) (u x : ℕ) → monthly ≡ true → x ≡ monthStart u → x ≡ unitDay monthly u
@@ -60,3 +60,35 @@ months-all day m most some h =
 
 pub months-end : (day m : ℕ) → day ≤ 36525 → m ≡ 1200 → ((j : ℕ) → j < m → monthStart j < day) → Before true day m
 months-end day m most e some = months-all day m (omega arith) some (omega (arith, start-past m (omega arith)))
+
+-- by the calendar a later month starts no earlier, past the table too
+months-on : (i j : ℕ) → i ≤ j → monthDay i ≤ monthDay j
+months-on i j h = ⊎-elim (λ l. let e : i ≡ j = omega arith in omega (arith, ap monthDay e)) (λ l. omega (arith, month-ascends i j l)) (le-or-lt j i)
+
+-- days that start by a day: one more than it counts
+pub days-by : {monthly : Bool} {day : ℕ} → monthly ≡ false → By monthly day (day + 1)
+days-by {day = day} e = rw e (record { within = λ j h. omega arith; past = λ j h. omega arith })
+
+-- what of the months that start before a day is used: there are no more than the table has
+module _ (day m : ℕ) (most : day ≤ 36525) (b : Before true day m) where
+  pub months-few : m ≤ 1200
+  months-few = ⊎-elim (λ h. h) (λ h. absurd (omega (arith, b .within 1200 h, start-past 1200 (omega arith)))) (le-or-lt m 1200)
+
+  months-within : (j : ℕ) → j < m → monthDay j ≤ day
+  months-within j h = omega (arith, b .within j h, start-in j (omega (arith, months-few)))
+
+  -- the next month starts on the day: it too, and no other
+  pub months-by-one : monthStart m ≡ day → By true day (m + 1)
+  months-by-one e =
+      let here : monthDay m ≡ day = omega (arith, start-in m months-few) in
+      record {
+        within = λ j h. ⊎-elim (λ l. omega (arith, months-on j m (omega arith))) (λ l. months-within j l) (le-or-lt m j);
+        past = λ j h. omega (arith, month-ascends m j (omega arith));
+      }
+
+  -- or later: none
+  pub months-by-none : (monthStart m ≡ day → ⊥) → By true day m
+  months-by-none n =
+      let here : day ≤ monthDay m = omega (arith, start-in m months-few, b .past m (omega arith)) in
+      let apart : monthDay m ≡ day → ⊥ = λ e. n (omega (arith, start-in m months-few)) in
+      record { within = months-within; past = λ j h. omega (arith, months-on m j h) }

@@ -3,5 +3,4 @@ pub mod Days
 pub mod Counts
 pub mod Bounds
 pub mod Fitting
-pub mod Laying
 pub mod Presence

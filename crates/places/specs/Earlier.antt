@@ -1,7 +1,7 @@
--- How many units start before a day, how many numbers a slide apart lie below one, and how many units a slide apart start before a day.
+-- How many units start before a day, or by it; how many numbers a slide apart lie below one; and how many units a slide apart start before a day, or by it.
 use mathlib.Core.Bool.{Bool}
 use Prim.Native.Nat.{ℕ, _+_, _*_, _≤_, _<_}
-use Rattle.places.specs.Placing.{unitDay}
+use Rattle.places.specs.Placing.{unitDay, calendarDay}
 
 -- the units below u start before the day, and no others
 pub record Before (monthly : Bool) (day u : ℕ) : Type 0 where
@@ -20,3 +20,13 @@ pub record Starting (monthly : Bool) (from slide day n : ℕ) : Type 0 where
   pub most : n ≤ 36525
   pub within : (k : ℕ) → k < n → unitDay monthly (from + k * slide) < day
   pub past : (k : ℕ) → n ≤ k → day ≤ unitDay monthly (from + k * slide)
+
+-- the units below u start by the day, and no others, by the calendar
+pub record By (monthly : Bool) (day u : ℕ) : Type 0 where
+  pub within : (j : ℕ) → j < u → calendarDay monthly j ≤ day
+  pub past : (j : ℕ) → u ≤ j → day < calendarDay monthly j
+
+-- of the units from `from` on, each a slide after the one before, the first n start by the day, and no others, by the calendar
+pub record Ending (monthly : Bool) (from slide day n : ℕ) : Type 0 where
+  pub within : (k : ℕ) → k < n → calendarDay monthly (from + k * slide) ≤ day
+  pub past : (k : ℕ) → n ≤ k → day < calendarDay monthly (from + k * slide)

@@ -3,7 +3,7 @@ use mathlib.Core.Path.{_≡_}
 use mathlib.Core.Bool.{Bool, true, false, cond}
 use Prim.Native.Nat.{ℕ, _+_, _-_, _*_, _≤_, _<_}
 use Rattle.calendar.specs.declared.Month.the-variants.{Number}
-use Rattle.calendar.specs.Gregorian.{monthStart, monthOn}
+use Rattle.calendar.specs.Gregorian.{monthDay, monthStart, monthOn}
 use Rattle.meaning.specs.declared.Rule.{Rule}
 use Rattle.meaning.specs.Window.{Window, least}
 use Rattle.places.specs.declared.Places.{Places}
@@ -12,6 +12,10 @@ use Rattle.places.specs.declared.Places.{Places}
 abbrev pub unitDay : Bool → ℕ → ℕ
 unitDay monthly u = cond monthly (monthStart u) u
 
+-- the same by the calendar alone, past the end of the table of months too
+abbrev pub calendarDay : Bool → ℕ → ℕ
+calendarDay monthly u = cond monthly (monthDay u) u
+
 -- the first day of place k, and the day past its last
 unfoldable pub startOf : Places → ℕ → ℕ
 startOf at k = unitDay (at .monthly) (at .first + k * at .slide)
@@ -19,11 +23,16 @@ startOf at k = unitDay (at .monthly) (at .first + k * at .slide)
 unfoldable pub endOf : Places → ℕ → ℕ
 endOf at k = least (unitDay (at .monthly) (at .first + k * at .slide + at .span)) (at .close)
 
--- place k as a window; where it would end by its length alone is of no account here
-abbrev pub windowAt : Places → ℕ → Window
-windowAt at k = record { from = startOf at k; to = endOf at k; natural = endOf at k }
+-- where place k would end by its length alone
+unfoldable pub naturalOf : Places → ℕ → ℕ
+naturalOf at k = calendarDay (at .monthly) (at .first + k * at .slide + at .span)
 
--- the numbers stay small, and there are as many places as start before the close
+-- place k as a window
+abbrev pub windowAt : Places → ℕ → Window
+windowAt at k = record { from = startOf at k; to = endOf at k; natural = naturalOf at k }
+
+-- the numbers stay small, there are as many places as start before the close, and as many of them are whole as end by it of themselves: those
+-- come first, and all others are shortened
 pub record Counted (at : Places) : Type 0 where
   pub first-most : at .first ≤ 36525
   pub span-least : 1 ≤ at .span
@@ -34,6 +43,9 @@ pub record Counted (at : Places) : Type 0 where
   pub count-most : at .count ≤ 36525
   pub inside : (k : ℕ) → k < at .count → startOf at k < at .close
   pub over : (k : ℕ) → at .count ≤ k → at .close ≤ startOf at k
+  pub whole-most : at .whole ≤ at .count
+  pub ended : (k : ℕ) → k < at .whole → naturalOf at k ≤ at .close
+  pub shortened : (k : ℕ) → k < at .count → at .whole ≤ k → at .close < naturalOf at k
 
 -- by the rule: a sequenced one has the days of its period; another, by its unit, the whole period, windows of days, or windows of months
 pub data Placed (r : Rule) (at : Places) : Type 0 where

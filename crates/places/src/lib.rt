@@ -5,8 +5,8 @@ use meaning::Rule;
 use numbers::index;
 ghost use mathlib.Core.Path.{_≡_};
 ghost use mathlib.Core.Bool.{true};
-ghost use Prim.Native.Nat.{ℕ, _≤_, _<_};
-ghost use lib.ListN.{length, getD};
+ghost use Prim.Native.Nat.{_≤_};
+ghost use lib.Dec.{leb};
 ghost use Rattle.calendar.specs.Entries.{MonthTable};
 ghost use Rattle.meaning.specs.Rules.{ruleFields};
 ghost use Rattle.meaning.specs.Window.{least};
@@ -16,7 +16,7 @@ ghost use Rattle.places.specs.Made.{Small, Made};
 mod units; // units.rt: how many units start before a day
 
 // The places of a rule: whether their units are months, the first unit, how many units a place spans, how many the next one is further on,
-// the day on which the period ends, and how many places there are.
+// the day on which the period ends, how many places there are, and how many of them are whole: the period's end cuts none of those short.
 pub struct Places {
     pub monthly: bool,
     pub first: usize,
@@ -24,12 +24,15 @@ pub struct Places {
     pub slide: usize,
     pub close: usize,
     pub count: usize,
+    pub whole: usize,
 }
 
-// A place: the days from `from` up to, not including, `to`.
-pub struct Stretch {
+// A place: its number, from 0, the days from `from` up to, not including, `to`, and whether the period's end cuts it short.
+pub struct Place {
+    pub number: usize,
     pub from: usize,
     pub to: usize,
+    pub shortened: bool,
 }
 
 // The lesser of two days. Cost: none.
@@ -42,7 +45,8 @@ fn lesser(a: usize, b: usize) -> usize
     b
 }
 
-// The places that these numbers give, with how many there are. Cost: a division, and for months some three looks at the table.
+// The places that these numbers give, with how many there are and how many are whole. Cost: two divisions, and for months some seven looks at
+// the table.
 fn counted(
     table: &[u16; 1201],
     monthly: bool,
@@ -55,6 +59,8 @@ fn counted(
     ensures { λ x. ⌜ Made monthly first span slide close x × Counted x ⌝ }
 {
     let count = units::starting(table, monthly, first, slide, close);
+    let ended = units::ending(table, monthly, first + span, slide, close);
+    let whole = lesser(ended, count);
     Places {
         monthly,
         first,
@@ -62,6 +68,7 @@ fn counted(
         slide,
         close,
         count,
+        whole,
     }
 }
 
@@ -112,30 +119,6 @@ pub fn high(table: &[u16; 1201], at: Places, end: u16) -> u16
     units::starting(table, at.monthly, at.first, at.slide, day) as u16
 }
 
-// The first places of versions, by the column of their begins, into a lent column. Cost: as for `low`, for each.
-pub fn lay_low(table: &[u16; 1201], at: Places, begin: &[u16], lo: &mut [u16])
-    requires { ⌜ MonthTable (now table) × Counted at × (length (now begin) ≤ length (now lo)) ⌝ }
-    ensures { λ x. ⌜ (length (now (lo .exit)) ≡ length (now (lo .entry))) × ((i : ℕ) → i < length (now (begin .entry)) → Low at (getD (now (begin .entry)) i 0) (getD (now (lo .exit)) i 0)) ⌝ }
-{
-    let mut i = 0;
-    while i < begin.len() {
-        lo[i] = low(table, at, begin[i]);
-        i += 1;
-    }
-}
-
-// The places past the last of versions, by the column of their ends, into a lent column. Cost: as for `high`, for each.
-pub fn lay_high(table: &[u16; 1201], at: Places, end: &[u16], hi: &mut [u16])
-    requires { ⌜ MonthTable (now table) × Counted at × (length (now end) ≤ length (now hi)) ⌝ }
-    ensures { λ x. ⌜ (length (now (hi .exit)) ≡ length (now (hi .entry))) × ((i : ℕ) → i < length (now (end .entry)) → High at (getD (now (end .entry)) i 0) (getD (now (hi .exit)) i 0)) ⌝ }
-{
-    let mut i = 0;
-    while i < end.len() {
-        hi[i] = high(table, at, end[i]);
-        i += 1;
-    }
-}
-
 // The day of unit u: u itself, or the day on which month u starts. Cost: at most one look at the table.
 fn unit_day(table: &[u16; 1201], monthly: bool, u: usize) -> usize
     requires { ⌜ MonthTable (now table) ⌝ }
@@ -147,15 +130,22 @@ fn unit_day(table: &[u16; 1201], monthly: bool, u: usize) -> usize
     u
 }
 
-// The days of place k, which ends with the period if not before. Cost: at most two looks at the table.
-pub fn place(table: &[u16; 1201], at: Places, k: usize) -> Stretch
+// Place k, which ends with the period if not before. Cost: at most two looks at the table.
+pub fn place_at(table: &[u16; 1201], at: Places, k: usize) -> Place
     requires { ⌜ MonthTable (now table) × Counted at × (k ≤ at .count) ⌝ }
     ensures from { λ x. ⌜ x .from ≡ startOf at k ⌝ }
     ensures to { λ x. ⌜ x .to ≡ endOf at k ⌝ }
+    ensures number { λ x. ⌜ x .number ≡ k ⌝ }
+    ensures shortened { λ x. ⌜ x .shortened ≡ leb (at .whole) k ⌝ }
 {
     let start = at.first + k * at.slide;
     let from = unit_day(table, at.monthly, start);
     let past = unit_day(table, at.monthly, start + at.span);
     let to = lesser(past, at.close);
-    Stretch { from, to }
+    Place {
+        number: k,
+        from,
+        to,
+        shortened: at.whole <= k,
+    }
 }

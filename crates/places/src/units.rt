@@ -1,10 +1,10 @@
-// How many units, which are days or months, start before a day; and how many of those a slide apart.
+// How many units, which are days or months, start before a day, or by it; and how many of those a slide apart.
 use numbers::index;
 ghost use mathlib.Core.Bool.{true};
 ghost use Prim.Native.Nat.{ℕ, _≤_, _<_};
 ghost use Rattle.calendar.specs.Entries.{MonthTable};
 ghost use Rattle.calendar.specs.Gregorian.{monthStart};
-ghost use Rattle.places.specs.Earlier.{Before, Steps, Starting};
+ghost use Rattle.places.specs.Earlier.{Before, Steps, Starting, By, Ending};
 
 // The number of the table's last month. It starts past every day of a period.
 const LAST: usize = 1200;
@@ -79,5 +79,39 @@ pub fn starting(table: &[u16; 1201], monthly: bool, from: usize, slide: usize, d
     ensures { λ r. ⌜ Starting monthly from slide day r ⌝ }
 {
     let u = units_before(table, monthly, day);
+    steps(from, slide, u)
+}
+
+// How many months start by the day, by the calendar: those that start before it, and one more if it starts on it. Past the table none does.
+// Cost: some four looks at the table.
+fn months_by(table: &[u16; 1201], day: usize) -> usize
+    requires { ⌜ MonthTable (now table) × (day ≤ 36525) ⌝ }
+    ensures { λ r. ⌜ By true day r ⌝ }
+{
+    let m = months_before(table, day);
+    if index(calendar::entry(table, m)) == day {
+        return m + 1;
+    }
+    m
+}
+
+// How many units start by the day, by the calendar. Cost: for months some four looks at the table.
+fn units_by(table: &[u16; 1201], monthly: bool, day: usize) -> usize
+    requires { ⌜ MonthTable (now table) × (day ≤ 36525) ⌝ }
+    ensures { λ r. ⌜ By monthly day r ⌝ }
+{
+    if monthly {
+        return months_by(table, day);
+    }
+    day + 1
+}
+
+// How many of the units from `from` on, a slide apart, start by the day, by the calendar. Cost: a division, and for months some four looks
+// at the table.
+pub fn ending(table: &[u16; 1201], monthly: bool, from: usize, slide: usize, day: usize) -> usize
+    requires { ⌜ MonthTable (now table) × (1 ≤ slide) × (day ≤ 36525) ⌝ }
+    ensures { λ r. ⌜ Ending monthly from slide day r ⌝ }
+{
+    let u = units_by(table, monthly, day);
     steps(from, slide, u)
 }

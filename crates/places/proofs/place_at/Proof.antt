@@ -1,11 +1,12 @@
--- `places::place` meets its contract: the days of two units, the later one clipped.
+-- `places::place_at` meets its contract: the days of two units, the later one clipped.
+use mathlib.Core.Path.{refl}
 use native.Mathlib.Omega.{arith}
 use borrow.Author.Needs.{needs}
 use Rattle.places.specs.Placing.{startOf, endOf}
 use Rattle.places.proofs.Days.{clipped}
 use Rattle.places.proofs.Bounds.{way-most}
-use Rattle.places.proofs.place.Statement.{statement}
-use Rattle.places.proofs.place.Tie as tie
+use Rattle.places.proofs.place_at.Statement.{statement}
+use Rattle.places.proofs.place_at.Tie as tie
 
 -- from the day of the first unit back to the start
 abbrev entry : tie.After-unit-day → tie.Start
@@ -35,12 +36,18 @@ unit-day-requires-2 c κs = search needs
 lesser-requires : tie.Need-lesser-requires
 lesser-requires c κs = search needs
 
+-- from the end back to the day past the last unit, clipped
+abbrev clipping : tie.After-struct-known4 → tie.After-lesser
+clipping c = c .before
+
 returns : tie.Need-returns
 unfolding startOf endOf
-returns c = (c .before .before .before .unit-day .ensures, clipped _ _ _ _ (c .before .unit-day2 .ensures) (c .lesser .ensures))
+returns c =
+    let l = clipping c in
+    (l .before .before .before .unit-day .ensures, (clipped _ _ _ _ (l .before .unit-day2 .ensures) (l .lesser .ensures), (refl, refl)))
 
-pub place-spec : {M : Type 1} → statement M
-place-spec =
+pub place-at-spec : {M : Type 1} → statement M
+place-at-spec =
     tie.close
     (tie.spec
     mul-start
