@@ -1,4 +1,6 @@
--- The laws behind the pass over crowds.
+-- The laws behind the passes over crowds and levels.
 pub mod Counts
 pub mod Ends
 pub mod Crowding
+pub mod Turns
+pub mod Leveling

@@ -1,18 +1,20 @@
 // The pass over crowds: the soonest place at which more than so many records of one key are present at once.
 use numbers::index;
 ghost use mathlib.Core.Path.{_≡_};
-ghost use Prim.Native.Nat.{_+_, _≤_};
+ghost use Prim.Native.Nat.{_-_, _≤_};
 ghost use lib.ListN.{length};
 ghost use Rattle.meaning.specs.Block.{limit};
 ghost use Rattle.crowds.specs.Crowds.{ByMany, Ordered};
 ghost use Rattle.crowds.specs.Tallies.{Room, Cleared, Ended};
+
+pub mod level; // level.rt: on which places at least so many are present
 
 // No place: it is later than every one at which a record can be present.
 pub const NEVER: u16 = 65535;
 
 // One less, or 0.
 fn less(x: u16) -> u16
-    ensures { λ r. ⌜ (x ≤ r + 1) × (r ≤ x) ⌝ }
+    ensures { λ r. ⌜ r ≡ x - 1 ⌝ }
 {
     if x == 0 {
         return 0;

@@ -16,7 +16,7 @@ ghost use Rattle.passes.specs.Gaps.{Raised, Later, Missed, Demanded, Sup
 pub const NEVER: u16 = 65535;
 
 // Clears the first n entries. Cost: one store for each.
-fn clear(s: &mut [u16], n: usize)
+pub fn clear(s: &mut [u16], n: usize)
     requires { ⌜ n ≤ length (now s) ⌝ }
     ensures { λ r. ⌜ Cleared (now (s .exit)) n ⌝ }
 {
@@ -88,7 +88,7 @@ pub fn clash(
 }
 
 // The later of two places.
-fn later(x: u16, y: u16) -> u16
+pub fn later(x: u16, y: u16) -> u16
     ensures { λ r. ⌜ Later x y r ⌝ }
 {
     if x < y {
@@ -127,7 +127,7 @@ fn missed(reach: u16, need: u16, a: u16, d: u16) -> u16
 }
 
 // Takes record x, which begins at a, as a demand, if its key is below `room` and it is ever present. Cost: at most six looks.
-fn take_demand(
+pub fn take_demand(
     x: usize,
     a: u16,
     demand: &[u16],
@@ -154,7 +154,7 @@ fn take_demand(
 
 // Takes record x, which begins at a, as a supply, if its key is below `room` and it is ever present; the answer, of which d is what it was
 // before. Cost: at most five looks.
-fn take_supply(
+pub fn take_supply(
     x: usize,
     a: u16,
     supply: &[u16],
@@ -181,7 +181,7 @@ fn take_supply(
 }
 
 // The least of d and of the reaches of the keys below `room` at which a demand waits. Cost: two looks for each key.
-fn unmet(reach: &[u16], need: &[u16], room: usize, d: u16) -> u16
+pub fn unmet(reach: &[u16], need: &[u16], room: usize, d: u16) -> u16
     requires { ⌜ (room ≤ length (now reach)) × (room ≤ length (now need)) ⌝ }
     ensures { λ r. ⌜ Unmet (now (reach .entry)) (now (need .entry)) d room r ⌝ }
 {

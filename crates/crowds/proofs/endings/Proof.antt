@@ -111,7 +111,7 @@ loop-again c =
     let s = head y .loop in
     let some = c .before .before .if2 .taken in (
       simp length-set (s .inv .0),
-      ended-more _ _ _ _ _ _ _ _ _ _ (s .inv .1) (search needs) _ (y .index .ensures) (else1 k .if1 .left) _ _ (k .index2 .ensures) some (k-fits (c .before .before)) (c .less .ensures),
+      ended-more _ _ _ _ _ _ _ _ _ _ (s .inv .1) (search needs) _ (y .index .ensures) (else1 k .if1 .left) _ _ (k .index2 .ensures) some (k-fits (c .before .before)) (omega (arith, c .less .ensures), omega (arith, c .less .ensures)),
     )
 
 loop-less-2 : tie.Need-loop-less-2 Inv-loop μ-loop
