@@ -15,7 +15,7 @@ use Rattle.columns.specs.Lent.{Tree}
 use Rattle.columns.specs.Judgeable.{Judgeable}
 use Rattle.prepare.specs.Holders.{Holders}
 use Rattle.prepare.proofs.Filling.{Filled}
-use Rattle.prepare.proofs.Climbing.{tree-standing, standing-item}
+use Rattle.prepare.proofs.Descending.{seat-item}
 
 -- the columns have at most as many records as a document
 pub tree-few : (kinds names parents : List ℕ) → ((doc : Doc) × Tree doc kinds names parents × Judgeable doc) → length kinds ≤ limit
@@ -31,7 +31,7 @@ filled-holders doc r i holders s h l = record { room = l; held = λ v f a b. s .
 module _ (kinds names parents : List ℕ) where
   -- the item of a version has a name and a parent
   pub item-here : ((doc : Doc) × Tree doc kinds names parents × Judgeable doc) → (f p : ℕ) → getD kinds f 0 ≡ 2 → p ≡ getD parents f 0 → (p < length names) × (p < length parents)
-  item-here g f p k = standing-item names parents f (tree-standing kinds names parents g f k) p
+  item-here g f p k e = let s = seat-item kinds names parents (g .0) (g .1) (g .2) f k p e in (s .1, s .2)
 
   module _ (doc : Doc) (r : Rule) (t : Tree doc kinds names parents) (few : length kinds ≤ limit) (field : ℕ) (w : r .field ≡ field) (f : ℕ) where
     -- no record has the number 65,535

@@ -1,9 +1,10 @@
 -- The laws behind the passes that prepare a rule.
 pub mod Filling
-pub mod Climbing
+pub mod Descending
 pub mod Holding
 pub mod Choosing
 pub mod Wanting
 pub mod Keying
 pub mod Skipping
 pub mod Valued
+pub mod Owning

@@ -2,6 +2,7 @@
 pub mod Holders
 pub mod Rows
 pub mod Keys
-pub mod Standing
+pub mod Descent
 pub mod Rowed
 pub mod Sifts
+pub mod Acting

@@ -18,6 +18,7 @@ ghost use Rattle.prepare.specs.Sifts.{Sifts};
 pub mod select; // select.rt: the versions that a rule selects
 pub mod fields; // fields.rt: the version to which each field version belongs
 pub mod reads; // reads.rt: the versions that a rule reads
+pub mod roles; // roles.rt: what a rule makes of one record
 pub mod rows; // rows.rt: the way along the selected versions, and their rows
 
 // The selected versions, from `start` on by `next`; the row of each, down from `last` by `lower`, counted from one, 0 for none; and a mark
@@ -38,7 +39,7 @@ pub struct Sifted {
     pub read: [u8; LIMIT],
 }
 
-// What the rule picks out. Cost: four passes over the records, one of them with a climb of at most eight steps from each version.
+// What the rule picks out. Cost: one pass over the records.
 pub fn sift(
     kind: &[u8],
     vkind: &[u8],
@@ -50,10 +51,18 @@ pub fn sift(
     requires { ⌜ (rule .steps ≤ 8) × ((doc : Doc) × Tree doc (now kind) (now name) (now parent) × Values doc (now kind) (now vkind) (now value) × Judgeable doc) ⌝ }
     ensures { λ r. ⌜ ((doc : Doc) → Tree doc (now (kind .entry)) (now (name .entry)) (now (parent .entry)) → Values doc (now (kind .entry)) (now (vkind .entry)) (now (value .entry)) → Sifts doc rule r) ⌝ }
 {
-    let chosen = select::mark_selected(kind, name, parent, rule);
-    let holder = fields::holders(kind, name, parent, rule);
-    let read = reads::mark_by(&chosen, &holder, kind.len());
-    let row = rows::keys(vkind, value, &chosen, &holder, rule);
+    let path = rule.path;
+    let mut chosen = [0u8; LIMIT];
+    let mut row = [0u16; LIMIT];
+    let mut read = [0u8; LIMIT];
+    let mut i = 0;
+    while i < kind.len() {
+        let role = roles::role_of(kind, vkind, name, parent, value, &chosen, &path, rule, i);
+        chosen[i] = role.left;
+        row[i] = role.row;
+        read[i] = role.read;
+        i += 1;
+    }
     Sifted { chosen, row, read }
 }
 
@@ -78,7 +87,7 @@ pub fn sift_referred(
     sift(kind, vkind, name, parent, value, q)
 }
 
-// The rule prepared. Cost: six passes over the records, one of them with a climb of at most eight steps from each version.
+// The rule prepared. Cost: six passes over the records.
 pub fn prepare(
     kind: &[u8],
     vkind: &[u8],

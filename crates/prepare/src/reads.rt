@@ -46,7 +46,7 @@ pub fn mark_by(chosen: &[u8], holder: &[u16], n: usize) -> [u8; LIMIT]
     marks
 }
 
-// A mark on each version that the rule by itself reads. Cost: three passes over the records, one of them with a climb from each version.
+// A mark on each version that the rule by itself reads. Cost: three passes over the records.
 pub fn mark_read(kind: &[u8], name: &[u16], parent: &[u16], rule: Rule) -> [u8; LIMIT]
     requires { ⌜ (rule .steps ≤ 8) × ((doc : Doc) × Tree doc (now kind) (now name) (now parent) × Judgeable doc) ⌝ }
     ensures { λ r. ⌜ ((doc : Doc) → Tree doc (now (kind .entry)) (now (name .entry)) (now (parent .entry)) → Marks (readsOwn doc rule) (doc .size) r) ⌝ }

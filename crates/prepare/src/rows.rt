@@ -28,7 +28,7 @@ pub struct Way {
 }
 
 // Whether a field version with this value matters to the rule. Cost: a fixed number of tests.
-fn wanted(vkind: u8, value: i32, rule: Rule) -> bool
+pub fn wanted(vkind: u8, value: i32, rule: Rule) -> bool
     ensures { λ r. ⌜ ((doc : Doc) (f : ℕ) → doc .vkind f ≡ vkind → doc .value f ≡ value → r ≡ wants doc rule f) ⌝ }
 {
     if (rule.windowed != 0) | (rule.kind <= 3) {

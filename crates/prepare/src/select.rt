@@ -3,15 +3,15 @@ use columns::LIMIT;
 use meaning::Rule;
 use numbers::index;
 ghost use mathlib.Core.Path.{_≡_};
-ghost use Prim.Native.Nat.{_<_, _≤_};
-ghost use lib.Dec.{eqb};
-ghost use lib.ListN.{length};
+ghost use Prim.Native.Nat.{ℕ, suc, _<_, _≤_};
+ghost use lib.ListN.{length, getD};
 ghost use Rattle.meaning.specs.Document.{Doc};
-ghost use Rattle.meaning.specs.Select.{nameFits, pathTo, selected};
+ghost use Rattle.meaning.specs.declared.Rule.{Rule};
+ghost use Rattle.meaning.specs.Select.{nameFits, selected};
 ghost use Rattle.columns.specs.Lent.{Tree};
 ghost use Rattle.columns.specs.Judgeable.{Judgeable};
 ghost use Rattle.marks.specs.Marks.{Marks};
-ghost use Rattle.prepare.specs.Standing.{Upward, Standing};
+ghost use Rattle.prepare.specs.Descent.{Passes, Left, Descends};
 
 // Whether a name of a path fits a name: 65,535 fits any. Cost: two tests.
 fn name_fits(wanted: u16, name: u16) -> bool
@@ -20,53 +20,65 @@ fn name_fits(wanted: u16, name: u16) -> bool
     (wanted == 65535) | (wanted == name)
 }
 
-// Whether the names from the root to the item of version v fit the rule's path, no more and no fewer.
-// Cost: a step up for each name of the path, so eight at most.
-fn path_fits(name: &[u16], parent: &[u16], rule: Rule, v: usize) -> bool
-    requires { ⌜ Standing (now name) (now parent) v × (rule .steps ≤ 8) ⌝ }
-    ensures { λ r. ⌜ ((doc : Doc) → Upward doc (now (name .entry)) (now (parent .entry)) → r ≡ pathTo doc rule (rule .steps) v) ⌝ }
+// What is left of a path of `steps` names before that of an item: all of it before the root's, else what is left below the version in which
+// the item stands. Cost: two looks.
+pub fn left_before(parent: &[u16], left: &[u8], steps: u8, item: usize) -> u8
+    requires { ⌜ (steps ≤ 8) × (item < length (now parent)) × (0 < item → getD (now parent) item 0 < length (now left)) ⌝ }
+    ensures { λ r. ⌜ (item ≡ 0 → r ≡ suc steps) × (0 < item → r ≡ getD (now (left .entry)) (getD (now (parent .entry)) item 0) 0) ⌝ }
 {
-    let path = rule.path;
-    let mut at = v;
-    let mut k = rule.steps as usize;
-    while 0 < k {
-        k -= 1;
-        let item = index(parent[at]);
-        if !name_fits(path[k], name[item]) {
-            return false;
-        }
-        if item == 0 {
-            return k == 0;
-        }
-        at = index(parent[item]);
+    if item == 0 {
+        return steps + 1;
     }
-    false
+    left[index(parent[item])]
 }
 
-// The mark of record v: 1 where it is a selected version. Cost: one climb.
-fn selected_mark(kind: &[u8], name: &[u16], parent: &[u16], rule: Rule, v: usize) -> u8
-    requires { ⌜ (v < length (now kind)) × (rule .steps ≤ 8) × ((doc : Doc) × Tree doc (now kind) (now name) (now parent) × Judgeable doc) ⌝ }
-    ensures { λ r. ⌜ ((doc : Doc) → Tree doc (now (kind .entry)) (now (name .entry)) (now (parent .entry)) → eqb r 1 ≡ selected doc rule v) ⌝ }
+// What is left after one more name: one name less where the next one of the path fits it, else 0. Cost: at most three tests.
+pub fn left_after(path: &[u16; 8], steps: u8, before: u8, name: u16) -> u8
+    requires { ⌜ (steps ≤ 8) × (before ≤ suc steps) ⌝ }
+    ensures { λ r. ⌜ Passes (now (path .entry)) steps before name r ⌝ }
 {
-    if kind[v] != 2 {
+    if before < 2 {
         return 0;
     }
-    if path_fits(name, parent, rule, v) {
-        return 1;
+    let k = (steps + 1 - before) as usize;
+    if name_fits(path[k], name) {
+        return before - 1;
     }
     0
 }
 
-// A mark on each selected version. Cost: one pass over the records, with a climb from each version.
+// What is left below record v, 0 where it is no version. Cost: five looks.
+fn left_below(
+    kind: &[u8],
+    name: &[u16],
+    parent: &[u16],
+    left: &[u8],
+    path: &[u16; 8],
+    steps: u8,
+    v: usize,
+) -> u8
+    requires { ⌜ Descends (now kind) (now name) (now parent) (now left) steps v ⌝ }
+    ensures { λ x. ⌜ ((doc : Doc) (r : Rule) → Tree doc (now (kind .entry)) (now (name .entry)) (now (parent .entry)) → r .path ≡ now (path .entry) → r .steps ≡ steps → ((w : ℕ) → w < v → Left doc r w (getD (now (left .entry)) w 0)) → Left doc r v x) ⌝ }
+{
+    if kind[v] != 2 {
+        return 0;
+    }
+    let item = index(parent[v]);
+    let before = left_before(parent, left, steps, item);
+    left_after(path, steps, before, name[item])
+}
+
+// A mark on each selected version: what is left below it is one, no name and no more. Cost: one pass over the records.
 pub fn mark_selected(kind: &[u8], name: &[u16], parent: &[u16], rule: Rule) -> [u8; LIMIT]
     requires { ⌜ (rule .steps ≤ 8) × ((doc : Doc) × Tree doc (now kind) (now name) (now parent) × Judgeable doc) ⌝ }
     ensures { λ r. ⌜ ((doc : Doc) → Tree doc (now (kind .entry)) (now (name .entry)) (now (parent .entry)) → Marks (selected doc rule) (doc .size) r) ⌝ }
 {
-    let mut marks = [0u8; LIMIT];
+    let path = rule.path;
+    let mut left = [0u8; LIMIT];
     let mut i = 0;
     while i < kind.len() {
-        marks[i] = selected_mark(kind, name, parent, rule, i);
+        left[i] = left_below(kind, name, parent, &left, &path, rule.steps, i);
         i += 1;
     }
-    marks
+    left
 }

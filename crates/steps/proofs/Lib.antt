@@ -1,5 +1,4 @@
 -- The laws behind the offender of one window of a datatype rule.
-pub mod Rising
 pub mod Grouping
 pub mod Windowed
 pub mod Reached
@@ -9,3 +8,4 @@ pub mod Raising
 pub mod Levelling
 pub mod Placing
 pub mod Settling
+pub mod Calming

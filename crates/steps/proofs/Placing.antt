@@ -1,6 +1,6 @@
 -- What is read off at the places of an order, and the chains along it.
 use mathlib.Core.Path.{_≡_, sym, ap, _∙_}
-use mathlib.Core.Bool.{true, false}
+use mathlib.Core.Bool.{Bool, true, false, cond}
 use mathlib.Core.List.{List}
 use Prim.Native.Nat.{ℕ, _-_, _≤_, _<_}
 use native.Mathlib.Omega.{arith}
@@ -24,6 +24,13 @@ use Rattle.groups.proofs.Gathering.{class-low, class-under}
 use Rattle.steps.specs.Greatest.{Chain, greater}
 use Rattle.steps.specs.Levels.{Placed}
 use Rattle.steps.specs.Places.{Threaded, groupAt, endAt, settledAs}
+
+-- what is chosen by a test that passes, and by one that fails
+pub where-true : (t : Bool) (x y : ℕ) → t ≡ true → x ≡ cond t x y
+where-true t x y e = rw e
+
+pub where-false : (t : Bool) (x y : ℕ) → t ≡ false → y ≡ cond t x y
+where-false t x y e = rw e
 
 -- the last place of a class
 pub last-none : (last : List ℕ) (class k : ℕ) → k ≡ class → length last ≤ k → 0 ≡ getD last class 0

@@ -23,13 +23,9 @@ use Rattle.columns.specs.Judgeable.{Judgeable}
 use Rattle.marks.proofs.After.{after-is}
 use Rattle.prepare.specs.Holders.{Skips}
 use Rattle.prepare.specs.Rows.{inRow}
-use Rattle.steps.specs.Reaching.{wrongAfter, Reaches}
+use Rattle.steps.specs.Reaching.{wrongAfter, Reaches, stepped}
 use Rattle.steps.proofs.Grouping.{row-version}
 use Rattle.steps.proofs.Windowed.{offends-in}
-
--- by the lists, f meets the window and its reach lies after the first day
-abbrev pub stepped : List ℕ → List ℕ → List ℕ → ℕ → ℕ → ℕ → Bool
-stepped begins ends reach from to f = ltb (getD begins f 0) to && ltb from (getD ends f 0) && ltb from (getD reach f 0)
 
 -- the walk has come to f, and by the lists nothing below it offends
 pub record Looked (begins ends reach : List ℕ) (from to f : ℕ) : Type 0 where

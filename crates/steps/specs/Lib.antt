@@ -5,3 +5,4 @@ pub mod Stacks
 pub mod Levels
 pub mod Sweeping
 pub mod Places
+pub mod Calm

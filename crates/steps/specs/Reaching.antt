@@ -3,18 +3,14 @@ use mathlib.Core.Path.{_≡_}
 use mathlib.Core.Bool.{Bool, true, _&&_, _||_, not}
 use mathlib.Core.List.{List}
 use Prim.Native.Nat.{ℕ, _≤_, _<_}
-use lib.IntN.{ℤ, pos}
 use lib.Dec.{ltb}
 use lib.ListN.{length, getD}
 use Rattle.meaning.specs.declared.Rule.{Rule}
 use Rattle.meaning.specs.Walk.{any}
-use Rattle.meaning.specs.Document.{Doc, isVersion, numberOf}
+use Rattle.meaning.specs.Document.{Doc, numberOf}
 use Rattle.meaning.specs.Select.{isNumber}
 use Rattle.meaning.specs.Window.{jumps}
-use Rattle.columns.specs.Lent.{Lends, Periods}
 use Rattle.prepare.specs.Rows.{inRow}
-use Rattle.prepare.specs.Keys.{Keys}
-use Rattle.groups.specs.Groups.{Gathered}
 
 -- everything is present: what holds of no window in particular
 abbrev pub always : ℕ → Bool
@@ -33,12 +29,6 @@ pub record Reaches (doc : Doc) (r : Rule) (reach : List ℕ) : Type 0 where
   pub room : doc .size ≤ length reach
   pub above : (f a : ℕ) → f < doc .size → a ≤ 36524 → ltb a (getD reach f 0) ≡ wrongAfter doc r f a
 
--- values and periods, the row of each field version, the class of each version's item number, and the field versions of each class
-pub record Ready (doc : Doc) (r : Rule) (vkinds : List ℕ) (values : List ℤ) (begins ends keys groups last lower : List ℕ) : Type 0 where
-  pub vkind : Lends (doc .size) (doc .vkind) 0 vkinds
-  pub value : Lends (doc .size) (doc .value) (pos 0) values
-  pub periods : Periods doc begins ends
-  pub rows : Keys doc r keys
-  pub class-room : doc .size ≤ length groups
-  pub class-low : (v : ℕ) → isVersion doc v ≡ true → getD groups v 0 < doc .size
-  pub gathered : Gathered doc r groups last lower
+-- by the lists, record f shares a day with the window from..to and its reach lies after the first day
+abbrev pub stepped : List ℕ → List ℕ → List ℕ → ℕ → ℕ → ℕ → Bool
+stepped begins ends reach from to f = ltb (getD begins f 0) to && ltb from (getD ends f 0) && ltb from (getD reach f 0)

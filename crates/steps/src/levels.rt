@@ -21,7 +21,7 @@ pub const TURNED: u8 = 3;
 const TEXT: u64 = 17179869184;
 
 // A signed number moved up, so that the least is 0. Cost: one test.
-fn raised(z: i32) -> u64
+pub fn raised(z: i32) -> u64
     ensures { λ r. ⌜ (r ≡ raised z) × (r < 4294967296) ⌝ }
 {
     let size = numbers::magnitude(z) as u64;

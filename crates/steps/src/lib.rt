@@ -5,7 +5,7 @@ use meaning::Found;
 use numbers::index;
 ghost use mathlib.Core.Path.{_≡_};
 ghost use mathlib.Core.Bool.{false};
-ghost use Prim.Native.Nat.{ℕ, _<_, _≤_};
+ghost use Prim.Native.Nat.{_<_, _≤_};
 ghost use lib.Dec.{eqb, ltb};
 ghost use lib.ListN.{length, getD};
 ghost use Rattle.meaning.specs.declared.Rule.{Rule};
@@ -18,97 +18,19 @@ ghost use Rattle.columns.specs.Lent.{Periods};
 ghost use Rattle.columns.specs.Judgeable.{Judgeable};
 ghost use Rattle.marks.specs.Marks.{Marks};
 ghost use Rattle.prepare.specs.Holders.{Skips};
-ghost use Rattle.steps.specs.Reaching.{wrongAfter, Reaches, Ready};
+ghost use Rattle.steps.specs.Reaching.{Reaches, stepped};
 ghost use Rattle.steps.specs.Places.{Closing};
 
 mod levels; // levels.rt: how high field versions stand in the stacks, and the bounds
 mod places; // places.rt: chains along an order of the field versions, and what is read off at its places
+mod spans; // spans.rt: how far apart the numbers of the rows lie
 mod stacks; // stacks.rt: the last number before a place that lies below a bound
 mod sweep; // sweep.rt: searches along an order of the field versions
-mod walks; // walks.rt: two walks down the field versions under one item number
 
-// The day before which a window must begin for record f to offend, 0 where none can. Cost: two looks for each field version under its item number.
-fn reach_of(
-    vkind: &[u8],
-    value: &[i32],
-    begin: &[u16],
-    end: &[u16],
-    key: &[u16],
-    group: &[u16],
-    last: &[u16],
-    lower: &[u16],
-    low: i32,
-    high: i32,
-    f: usize,
-) -> u16
-    requires { ⌜ (f < length (now vkind)) × ((doc : Doc) × (r : Rule) × Ready doc r (now vkind) (now value) (now begin) (now end) (now key) (now group) (now last) (now lower) × Judgeable doc) ⌝ }
-    ensures { λ x. ⌜ ((doc : Doc) (r : Rule) → Ready doc r (now (vkind .entry)) (now (value .entry)) (now (begin .entry)) (now (end .entry)) (now (key .entry)) (now (group .entry)) (now (last .entry)) (now (lower .entry)) → Judgeable doc → isSequenced r ≡ false → low ≡ r .low → high ≡ r .high → (a : ℕ) → a ≤ 36524 → ltb a x ≡ wrongAfter doc r f a) ⌝ }
-{
-    let v = index(key[f]);
-    if vkind.len() <= v {
-        return 0;
-    }
-    if vkind[f] != 1 {
-        return places::EVER;
-    }
-    let past = index(last[index(group[v])]);
-    let day = begin[f];
-    let bar = walks::latest_begin(begin, end, lower, past, day);
-    walks::latest_wrong(
-        vkind,
-        value,
-        end,
-        lower,
-        past,
-        day,
-        bar,
-        value[f],
-        low,
-        high,
-    )
-}
-
-// The day before which a window must begin for each record to offend. Cost: one pass over the records, with two looks for each field version
-// at those under its item number.
-pub fn reaches(
-    vkind: &[u8],
-    value: &[i32],
-    begin: &[u16],
-    end: &[u16],
-    key: &[u16],
-    group: &[u16],
-    last: &[u16],
-    lower: &[u16],
-    low: i32,
-    high: i32,
-) -> [u16; LIMIT]
-    requires { ⌜ ((doc : Doc) × (r : Rule) × Ready doc r (now vkind) (now value) (now begin) (now end) (now key) (now group) (now last) (now lower) × Judgeable doc) ⌝ }
-    ensures { λ x. ⌜ ((doc : Doc) (r : Rule) → Ready doc r (now (vkind .entry)) (now (value .entry)) (now (begin .entry)) (now (end .entry)) (now (key .entry)) (now (group .entry)) (now (last .entry)) (now (lower .entry)) → Judgeable doc → isSequenced r ≡ false → low ≡ r .low → high ≡ r .high → Reaches doc r x) ⌝ }
-{
-    let mut out = [0u16; LIMIT];
-    let mut f = 0;
-    while f < vkind.len() {
-        out[f] = reach_of(
-            vkind,
-            value,
-            begin,
-            end,
-            key,
-            group,
-            last,
-            lower,
-            low,
-            high,
-            f,
-        );
-        f += 1;
-    }
-    out
-}
-
-// The same, by the versions in the order of their ends. Cost: four searches for each record, each of some two looks for each doubling of those under
-// its item number, and a fixed number of passes over the records and the order.
-pub fn reaches_swept(
+// The day before which a window must begin for each record to offend, 0 where none can, by the versions in the order of their ends. Cost: four
+// searches for each record, each of some two looks for each doubling of those under its item number, and a fixed number of passes over the
+// records and the order.
+fn reaches_sought(
     vkind: &[u8],
     value: &[i32],
     begin: &[u16],
@@ -153,6 +75,27 @@ pub fn reaches_swept(
     )
 }
 
+// The same: no search is made where no two numbers with a row are a wrong step apart. Cost: two passes over the records, else one and that of the searches.
+pub fn reaches_swept(
+    vkind: &[u8],
+    value: &[i32],
+    begin: &[u16],
+    end: &[u16],
+    key: &[u16],
+    group: &[u16],
+    closes: &[u16],
+    low: i32,
+    high: i32,
+) -> [u16; LIMIT]
+    requires { ⌜ ((doc : Doc) × (r : Rule) × Closing doc r (now vkind) (now value) (now begin) (now end) (now key) (now group) (now closes) × Judgeable doc) ⌝ }
+    ensures { λ x. ⌜ ((doc : Doc) (r : Rule) → Closing doc r (now (vkind .entry)) (now (value .entry)) (now (begin .entry)) (now (end .entry)) (now (key .entry)) (now (group .entry)) (now (closes .entry)) → Judgeable doc → isSequenced r ≡ false → low ≡ r .low → high ≡ r .high → Reaches doc r x) ⌝ }
+{
+    if spans::calm(key, vkind, value, low, high) {
+        return places::unmoved(key, vkind);
+    }
+    reaches_sought(vkind, value, begin, end, key, group, closes, low, high)
+}
+
 // The mark of a reach: 1 above 0. Cost: one test.
 fn reaching(x: u16) -> u8
     ensures { λ r. ⌜ eqb r 1 ≡ ltb 0 x ⌝ }
@@ -177,15 +120,23 @@ pub fn mark_reaching(reach: &[u16], n: usize) -> [u8; LIMIT]
     marks
 }
 
+// Whether record f shares a day with the window and its reach lies after the window's first day. Three looks.
+fn offends_in(begin: &[u16], end: &[u16], reach: &[u16], from: usize, to: usize, f: usize) -> bool
+    requires { ⌜ (f < length (now begin)) × (length (now begin) ≤ length (now end)) × (length (now begin) ≤ length (now reach)) ⌝ }
+    ensures { λ r. ⌜ r ≡ stepped (now (begin .entry)) (now (end .entry)) (now (reach .entry)) from to f ⌝ }
+{
+    (index(begin[f]) < to) & (from < index(end[f])) & (from < index(reach[f]))
+}
+
 // The lowest offender of the window that begins on day `from` and ends before day `to`. Cost: a look for each field version that can offend.
-pub fn stepped_in(
+pub fn stepped_in<'a>(
     start: usize,
-    next: &[u16],
+    next: &'a [u16],
     begin: &[u16],
     end: &[u16],
-    reach: &[u16],
-    from: u16,
-    to: u16,
+    reach: &'a [u16],
+    from: usize,
+    to: usize,
 ) -> Found
     requires rooms { ⌜ (length (now begin) ≤ length (now end)) × (length (now begin) ≤ length (now reach)) ⌝ }
     requires way { ⌜ Skips (λ f. ltb 0 (getD (now reach) f 0)) (length (now begin)) start (now next) ⌝ }
@@ -193,7 +144,7 @@ pub fn stepped_in(
 {
     let mut f = start;
     while f < begin.len() {
-        if (begin[f] < to) & (from < end[f]) & (from < reach[f]) {
+        if offends_in(begin, end, reach, from, to, f) {
             return Found::At(f);
         }
         f = index(next[f]);

@@ -1,5 +1,4 @@
 // Chains along an order of the field versions, and what is read off at its places.
-use crate::walks::larger;
 use columns::LIMIT;
 use columns::chains::Links;
 use columns::chains::chain;
@@ -86,6 +85,16 @@ fn end_at(end: &[u16], order: &[u16], place: u16) -> u16
     end[p]
 }
 
+// The greater of two places. Cost: one test.
+fn larger(a: u16, b: u16) -> u16
+    ensures { λ r. ⌜ r ≡ greater a b ⌝ }
+{
+    if a < b {
+        return b;
+    }
+    a
+}
+
 // For each of n records the end at the later of two places. Cost: one pass over the records.
 pub fn later_ends(
     end: &[u16],
@@ -131,6 +140,20 @@ pub fn answers(key: &[u16], vkind: &[u8], until: &[u16], parting: &[u16]) -> [u1
     let mut f = 0;
     while f < vkind.len() {
         out[f] = settled(key[f], vkind.len(), vkind[f], until[f], parting[f]);
+        f += 1;
+    }
+    out
+}
+
+// The reach of each record where no step is wrong: 0, but for what is no number. Cost: one pass over the records.
+pub fn unmoved(key: &[u16], vkind: &[u8]) -> [u16; LIMIT]
+    requires { ⌜ (length (now vkind) ≤ limit) × (length (now vkind) ≤ length (now key)) ⌝ }
+    ensures { λ r. ⌜ (length r ≡ limit) × ((f : ℕ) → f < length (now (vkind .entry)) → getD r f 0 ≡ settledAs (getD (now (key .entry)) f 0) (length (now (vkind .entry))) (getD (now (vkind .entry)) f 0) 0 0) ⌝ }
+{
+    let mut out = [0u16; LIMIT];
+    let mut f = 0;
+    while f < vkind.len() {
+        out[f] = settled(key[f], vkind.len(), vkind[f], 0, 0);
         f += 1;
     }
     out
