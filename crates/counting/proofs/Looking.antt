@@ -7,24 +7,22 @@ use Prim.Native.Nat.{ℕ, suc, _≤_, _<_}
 use native.Mathlib.Nat.{eq-or-lt-of-le}
 use native.Mathlib.Omega.{arith}
 use lib.Dec.{eqb}
-use lib.ListN.{getD}
-use borrow.Author.Tests.{ne-eqb}
 use Rattle.meaning.specs.declared.Found.the-variants.{At, Nothing}
 use Rattle.meaning.specs.Walk.{any, first}
 use Rattle.meaning.proofs.Basics.{went, le-or-lt}
 use Rattle.meaning.proofs.Walks.{any-none, any-true, first-at, first-none}
 use Rattle.meaning.proofs.Loops.{any-last}
 use Rattle.meaning.proofs.Says.{says}
+use Rattle.marks.specs.Marks.{marked}
 use Rattle.marks.proofs.After.{Next}
-use Rattle.day.specs.Row.{stamped}
 use Rattle.day.proofs.Skipping.{any-skips}
-use Rattle.counting.specs.Number.{Below, Met}
+use Rattle.counting.specs.Number.{Met}
 
 -- record v is chosen and present, and bad
 abbrev pub offending : (ℕ → Bool) → (ℕ → Bool) → (ℕ → Bool) → ℕ → Bool
 offending chosen p bad v = chosen v && (p v && bad v)
 
-module _ (n : ℕ) (chosen p : ℕ → Bool) (group : ℕ → ℕ) (bad : ℕ → Bool) (t : ℕ) where
+module _ (n : ℕ) (chosen p : ℕ → Bool) (group : ℕ → ℕ) (bad : ℕ → Bool) where
   -- record u is chosen and present, and of class y
   abbrev of-class : ℕ → ℕ → Bool
   of-class y u = chosen u && (p u && eqb (group u) y)
@@ -33,7 +31,7 @@ module _ (n : ℕ) (chosen p : ℕ → Bool) (group : ℕ → ℕ) (bad : ℕ �
   pub record Looked (v : ℕ) (done : List ℕ) : Type 0 where
     pub most : v ≤ n
     pub is-chosen : v < n → chosen v ≡ true
-    pub counted : (y : ℕ) → stamped t done y ≡ any (of-class y) 0 v
+    pub counted : (y : ℕ) → marked done y ≡ any (of-class y) 0 v
     pub none : (u : ℕ) → u < v → offending chosen p bad u ≡ false
 
   out-of-class : (y u : ℕ) → chosen u ≡ false → of-class y u ≡ false
@@ -42,12 +40,12 @@ module _ (n : ℕ) (chosen p : ℕ → Bool) (group : ℕ → ℕ) (bad : ℕ �
   not-offending : (u : ℕ) → chosen u ≡ false → offending chosen p bad u ≡ false
   not-offending u e = rw e
 
-  pub looked-start : (start : ℕ) (done : List ℕ) → Next chosen n 0 start → Below t done → Looked start done
+  pub looked-start : (start : ℕ) (done : List ℕ) → Next chosen n 0 start → ((y : ℕ) → marked done y ≡ false) → Looked start done
   looked-start start done s new =
       record {
         most = s .to;
         is-chosen = s .passes;
-        counted = λ y. ne-eqb (getD done y 0) t (λ q. omega (arith, new y)) ∙ sym (any-none (of-class y) 0 start (λ u a b. out-of-class y u (s .before u a (omega arith))));
+        counted = λ y. new y ∙ sym (any-none (of-class y) 0 start (λ u a b. out-of-class y u (s .before u a (omega arith))));
         none = λ u h. not-offending u (s .before u (omega arith) h);
       }
 
@@ -56,9 +54,9 @@ module _ (n : ℕ) (chosen p : ℕ → Bool) (group : ℕ → ℕ) (bad : ℕ �
 
   -- two chosen records of one class are bad both or neither; record v was looked at
   module _ (alike : (u v : ℕ) → chosen u ≡ true → chosen v ≡ true → group u ≡ group v → bad u ≡ bad v)
-      (v : ℕ) (done : List ℕ) (s : Looked v done) (h : v < n) (after : List ℕ) (answer : Bool) (met : Met (p v) (bad v) (group v) t done after answer) where
+      (v : ℕ) (done : List ℕ) (s : Looked v done) (h : v < n) (after : List ℕ) (answer : Bool) (met : Met (p v) (bad v) (group v) done after answer) where
     -- a class counted is that of a lower record, which was not bad
-    counted-good : stamped t done (group v) ≡ true → bad v ≡ false
+    counted-good : marked done (group v) ≡ true → bad v ≡ false
     counted-good e =
         let w = any-true (of-class (group v)) 0 v (sym (s .counted (group v)) ∙ e) in
         let u = w .0 in
@@ -72,7 +70,7 @@ module _ (n : ℕ) (chosen p : ℕ → Bool) (group : ℕ → ℕ) (bad : ℕ �
         (⊎-elim
         (λ e. let g = counted-good e in let m : answer ≡ (p v && (not true && bad v)) = rw e at (met .answers) in rw g (sym m))
         (λ e. let m : answer ≡ (p v && (not false && bad v)) = rw e at (met .answers) in sym m)
-        (went (stamped t done (group v))))
+        (went (marked done (group v))))
 
     pub looked-found : answer ≡ true → At v ≡ first (offending chosen p bad) 0 n
     looked-found y = sym (first-at _ v 0 n (omega arith) (omega arith) (answered ∙ y) (λ u a b. s .none u b))

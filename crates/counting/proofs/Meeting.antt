@@ -6,31 +6,31 @@ use Prim.Native.Nat.{ℕ, _<_}
 use lib.Dec.{eqb}
 use lib.ListN.{length, getD, set}
 use borrow.Author.Tests.{eq-eqb, ne-eqb}
-use Rattle.day.specs.Row.{stamped, outside}
-use Rattle.day.proofs.Meeting.{set-stamped, set-up-to}
+use Rattle.marks.specs.Marks.{marked}
+use Rattle.day.specs.Row.{outside}
+use Rattle.day.proofs.Meeting.{set-marked}
 use Rattle.counting.specs.Number.{Met, numberIn, breaks}
-use Rattle.counting.proofs.Weighing.{stamped-again}
+use Rattle.counting.proofs.Weighing.{tokened-again}
 
-module _ (here bad : Bool) (g t : ℕ) (done : List ℕ) where
+module _ (here bad : Bool) (g : ℕ) (done : List ℕ) where
   -- the version is not present
-  pub met-absent : here ≡ false → Met here bad g t done done false
-  met-absent e = record { answers = rw e; marks = λ y. rw e (sym (or-false (stamped t done y))); up-to = λ h. h }
+  pub met-absent : here ≡ false → Met here bad g done done false
+  met-absent e = record { answers = rw e; marks = λ y. rw e (sym (or-false (marked done y))) }
 
   module _ (e : here ≡ true) (at : ℕ) (i : at ≡ g) where
     -- its class was counted before
-    pub met-counted : getD done at 0 ≡ t → Met here bad g t done done false
+    pub met-counted : getD done at 0 ≡ 1 → Met here bad g done done false
     met-counted s =
-        let c : stamped t done g ≡ true = rw (sym i) (eq-eqb (getD done at 0) t s) in
-        record { answers = rw (e, c); marks = λ y. rw e (stamped-again t done g c y); up-to = λ h. h }
+        let c : marked done g ≡ true = rw (sym i) (eq-eqb (getD done at 0) 1 s) in
+        record { answers = rw (e, c); marks = λ y. rw e (tokened-again 1 done g c y) }
 
     -- it is counted now
-    pub met-new : (getD done at 0 ≡ t → ⊥) → at < length done → (answer : Bool) → answer ≡ bad → Met here bad g t done (set done at t) answer
+    pub met-new : (getD done at 0 ≡ 1 → ⊥) → at < length done → (answer : Bool) → answer ≡ bad → Met here bad g done (set done at 1) answer
     met-new s room answer q =
-        let c : stamped t done g ≡ false = rw (sym i) (ne-eqb (getD done at 0) t s) in
+        let c : marked done g ≡ false = rw (sym i) (ne-eqb (getD done at 0) 1 s) in
         record {
           answers = rw (e, c) q;
-          marks = λ y. rw e (set-stamped t done at room y ∙ ap (λ z. stamped t done y || eqb z y) i);
-          up-to = set-up-to t done at room;
+          marks = λ y. rw e (set-marked done at room y ∙ ap (λ z. marked done y || eqb z y) i);
         }
 
 -- a number outside the bounds is that of an item number that is out of range

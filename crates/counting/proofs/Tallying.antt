@@ -13,9 +13,9 @@ use Rattle.meaning.proofs.Walks.{count-same}
 use Rattle.meaning.proofs.Loops.{any-last}
 use Rattle.columns.specs.Chains.{pastLast}
 use Rattle.columns.proofs.Along.{past-low, past-in, along-start}
-use Rattle.day.specs.Row.{Chain, stamped}
+use Rattle.day.specs.Row.{Chain}
 use Rattle.day.proofs.Tallying.{count-last, past-count}
-use Rattle.counting.specs.Number.{Below, Weighed, numberIn}
+use Rattle.counting.specs.Number.{tokened, Below, Weighed, numberIn}
 use Rattle.counting.proofs.Numbering.{count-none, count-more}
 use Rattle.counting.proofs.Weighing.{weighed-absent, weighed-here, weighed-most}
 
@@ -36,8 +36,8 @@ module _ (p : ℕ → Bool) (n : ℕ) (rep : ℕ → ℕ) (distinct : Bool) (tok
     pub low : c + at ≤ n
     pub member : 0 < at → row (at - 1) ≡ true
     pub number : distinct ≡ false → c + count here 0 at ≡ count here 0 n
-    pub values : distinct ≡ true → c ≡ count (stamped token seen) 0 n
-    pub told : (y : ℕ) → any (asked y) 0 at || stamped token seen y ≡ any (asked y) 0 n
+    pub values : distinct ≡ true → c ≡ count (tokened token seen) 0 n
+    pub told : (y : ℕ) → any (asked y) 0 at || tokened token seen y ≡ any (asked y) 0 n
 
   here-row : (f : ℕ) → here f ≡ true → row f ≡ true
   here-row f e = and-l (row f) (p f) e
@@ -50,13 +50,13 @@ module _ (p : ℕ → Bool) (n : ℕ) (rep : ℕ → ℕ) (distinct : Bool) (tok
 
   counted-start : (past : ℕ) (lower seen : List ℕ) → Chain row n past lower → Below token seen → Counted past 0 seen
   counted-start past lower seen ch fresh =
-      let none : (y : ℕ) → stamped token seen y ≡ false = λ y. ne-eqb (getD seen y 0) token (λ q. omega (arith, fresh y)) in
+      let none : (y : ℕ) → tokened token seen y ≡ false = λ y. ne-eqb (getD seen y 0) token (λ q. omega (arith, fresh y)) in
       rw (ch .last-is)
       (record {
         low = omega (arith, past-low row n);
         member = past-in row n;
         number = λ d. omega (arith, past-count row here here-row n);
-        values = λ d. sym (count-none (stamped token seen) n (λ y a b. none y));
+        values = λ d. sym (count-none (tokened token seen) n (λ y a b. none y));
         told = λ y. rw (none y) (or-false (any (asked y) 0 (pastLast row n)) ∙ past-asked y n);
       })
 
@@ -65,7 +65,7 @@ module _ (p : ℕ → Bool) (n : ℕ) (rep : ℕ → ℕ) (distinct : Bool) (tok
   counted-end at c seen s h =
       let e : at ≡ 0 = omega arith in
       by-cases distinct _ _ c
-      (λ d. s .values d ∙ count-same (stamped token seen) (λ y. any (asked y) 0 n) 0 n (λ y a b. rw e at (s .told y)))
+      (λ d. s .values d ∙ count-same (tokened token seen) (λ y. any (asked y) 0 n) 0 n (λ y a b. rw e at (s .told y)))
       (λ d. let r : c + count here 0 0 ≡ count here 0 n = rw e at (s .number d) in omega arith)
 
   -- a step to the next lower record of the row, the one below `at` having been weighed
@@ -97,10 +97,10 @@ module _ (p : ℕ → Bool) (n : ℕ) (rep : ℕ → ℕ) (distinct : Bool) (tok
             member = rw leads (past-in row (at - 1));
             number = λ d. let e : w ≡ cond (p (at - 1)) 1 0 = rw (and-true (p (at - 1))) at (rw d at (found .adds)) in omega (arith, s .number d, top-count);
             values = λ d.
-                let e : w ≡ cond (p (at - 1) && not (stamped token seen (rep (at - 1)))) 1 0 = rw d at (found .adds) in
-                let split = count-same (stamped token seen′) (λ y. stamped token seen y || (p (at - 1) && eqb (rep (at - 1)) y)) 0 n (λ y a b. found .stamps y) in
-                omega (arith, s .values d, count-more (stamped token seen) (rep (at - 1)) n small (p (at - 1)));
-            told = λ y. rw (found .stamps y) (swap (any (asked y) 0 next) _ (stamped token seen y) ∙ ap (λ b. b || stamped token seen y) (sym (top-any y)) ∙ s .told y);
+                let e : w ≡ cond (p (at - 1) && not (tokened token seen (rep (at - 1)))) 1 0 = rw d at (found .adds) in
+                let split = count-same (tokened token seen′) (λ y. tokened token seen y || (p (at - 1) && eqb (rep (at - 1)) y)) 0 n (λ y a b. found .tokens y) in
+                omega (arith, s .values d, count-more (tokened token seen) (rep (at - 1)) n small (p (at - 1)));
+            told = λ y. rw (found .tokens y) (swap (any (asked y) 0 next) _ (tokened token seen y) ∙ ap (λ b. b || tokened token seen y) (sym (top-any y)) ∙ s .told y);
           }
         where
           swap : (a b s : Bool) → a || (s || b) ≡ (a || b || s)

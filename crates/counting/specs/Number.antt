@@ -8,7 +8,9 @@ use lib.Dec.{ltb, eqb}
 use lib.ListN.{length, getD}
 use Rattle.meaning.specs.Walk.{any, count}
 use Rattle.meaning.specs.Block.{limit}
-use Rattle.day.specs.Row.{UpTo, stamped, outside}
+use Rattle.marks.specs.Marks.{marked}
+use Rattle.day.specs.Ready.{Clear}
+use Rattle.day.specs.Row.{outside}
 
 -- the period of record i shares a day with the window from `from` up to, not including, `to`
 abbrev pub touches : List ℕ → List ℕ → ℕ → ℕ → ℕ → Bool
@@ -31,6 +33,14 @@ pub record Fits (n : ℕ) (ends reps groups last lower done seen : List ℕ) : T
   pub last-room : n ≤ length last
   pub done-room : n ≤ length done
 
+-- entry x is the token
+abbrev pub tokened : ℕ → List ℕ → ℕ → Bool
+tokened token seen x = eqb (getD seen x 0) token
+
+-- every entry is at most m
+abbrev pub UpTo : ℕ → List ℕ → Type 0
+UpTo m entries = (y : ℕ) → getD entries y 0 ≤ m
+
 -- every entry is below m
 abbrev pub Below : ℕ → List ℕ → Type 0
 Below m entries = (y : ℕ) → getD entries y 0 < m
@@ -38,8 +48,8 @@ Below m entries = (y : ℕ) → getD entries y 0 < m
 -- what a look at field version f counts and leaves, `here` being whether it is present and x its representative: 1 where it is present and,
 -- if values are counted, x has not the token yet; and x gets it
 pub record Weighed (here : Bool) (x : ℕ) (distinct : Bool) (token : ℕ) (before after : List ℕ) (c : ℕ) : Type 0 where
-  pub adds : c ≡ cond (here && not (distinct && stamped token before x)) 1 0
-  pub stamps : (y : ℕ) → stamped token after y ≡ (stamped token before y || (here && eqb x y))
+  pub adds : c ≡ cond (here && not (distinct && tokened token before x)) 1 0
+  pub tokens : (y : ℕ) → tokened token after y ≡ (tokened token before y || (here && eqb x y))
   pub up-to : UpTo token before → UpTo token after
 
 -- the field versions that `row` passes, of n, those that p passes being present
@@ -54,7 +64,12 @@ module _ (p : ℕ → Bool) (n : ℕ) (rep : ℕ → ℕ) (distinct : Bool) wher
 
 -- what a look at a version of class g answers and leaves, `here` being whether it is present and `bad` whether its item number is out of
 -- range: it is bad where it is present and its class has not been counted, and its class has been then
-pub record Met (here bad : Bool) (g t : ℕ) (before after : List ℕ) (answer : Bool) : Type 0 where
-  pub answers : answer ≡ (here && (not (stamped t before g) && bad))
-  pub marks : (y : ℕ) → stamped t after y ≡ (stamped t before y || (here && eqb g y))
-  pub up-to : UpTo t before → UpTo t after
+pub record Met (here bad : Bool) (g : ℕ) (before after : List ℕ) (answer : Bool) : Type 0 where
+  pub answers : answer ≡ (here && (not (marked before g) && bad))
+  pub marks : (y : ℕ) → marked after y ≡ (marked before y || (here && eqb g y))
+
+-- a clear mark for each of n classes, and an entry without token for each of n values
+pub record Fresh (n : ℕ) (done seen : List ℕ) : Type 0 where
+  pub classes : Clear n done
+  pub seen-room : n ≤ length seen
+  pub none : (y : ℕ) → getD seen y 0 ≡ 0

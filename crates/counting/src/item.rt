@@ -1,25 +1,23 @@
 // One item number in a window: how many of its field versions, or of their values, are present, and whether that is out of range.
-use columns::LIMIT;
 use numbers::index;
 ghost use mathlib.Core.Path.{_≡_};
 ghost use mathlib.Core.Bool.{Bool, true};
-ghost use Prim.Native.Nat.{ℕ, _+_, _*_, _<_, _≤_};
+ghost use Prim.Native.Nat.{ℕ, _+_, _<_, _≤_};
 ghost use lib.ListN.{length, getD};
-ghost use Rattle.meaning.specs.Block.{limit};
-ghost use Rattle.day.specs.Row.{Chain, UpTo};
-ghost use Rattle.counting.specs.Number.{touches, Room, Fits, Below, Weighed, numberIn, breaks, Met};
+ghost use Rattle.day.specs.Row.{Chain};
+ghost use Rattle.counting.specs.Number.{touches, Room, Fits, UpTo, Below, Weighed, numberIn, breaks, Met};
 
 // Whether version i shares a day with the window. Two looks.
-fn present(begin: &[u16], end: &[u16], from: u16, to: u16, i: usize) -> bool
+fn present(begin: &[u16], end: &[u16], from: usize, to: usize, i: usize) -> bool
     requires { ⌜ (i < length (now begin)) × (length (now begin) ≤ length (now end)) ⌝ }
     ensures { λ r. ⌜ r ≡ touches (now (begin .entry)) (now (end .entry)) from to i ⌝ }
 {
-    (begin[i] < to) & (from < end[i])
+    (index(begin[i]) < to) & (from < index(end[i]))
 }
 
 // How much field version f, which is present, adds to the number: 1 or, if values are counted and its value has the token already, 0; its value
 // gets the token. Two looks.
-fn weigh(rep: &[u16], distinct: bool, f: usize, token: u32, seen: &mut [u32]) -> usize
+fn weigh(rep: &[u16], distinct: bool, f: usize, token: u16, seen: &mut [u16]) -> usize
     requires { ⌜ (f < length (now rep)) × (getD (now rep) f 0 < length (now seen)) ⌝ }
     ensures { λ r. ⌜ Weighed true (getD (now (rep .entry)) f 0) distinct token (now (seen .entry)) (now (seen .exit)) r ⌝ }
 {
@@ -39,11 +37,11 @@ fn tally(
     rep: &[u16],
     lower: &[u16],
     distinct: bool,
-    from: u16,
-    to: u16,
+    from: usize,
+    to: usize,
     past: usize,
-    token: u32,
-    seen: &mut [u32],
+    token: u16,
+    seen: &mut [u16],
 ) -> usize
     requires { ⌜ Room (length (now begin)) (now end) (now rep) (now lower) (now seen) × ((row : ℕ → Bool) × Chain row (length (now begin)) past (now lower)) × Below token (now seen) ⌝ }
     ensures number { λ r. ⌜ ((row : ℕ → Bool) → Chain row (length (now (begin .entry))) past (now (lower .entry)) → r ≡ numberIn (touches (now (begin .entry)) (now (end .entry)) from to) (length (now (begin .entry))) (λ f. getD (now (rep .entry)) f 0) distinct row) ⌝ }
@@ -61,16 +59,8 @@ fn tally(
     count
 }
 
-// The token of version v in window t, which no other version and no other window has. Cost: two operations.
-fn token(t: u16, v: usize) -> u32
-    requires { ⌜ v < limit ⌝ }
-    ensures { λ r. ⌜ r ≡ t * limit + v ⌝ }
-{
-    (t as u32) * (LIMIT as u32) + (v as u32)
-}
-
-// Whether the item number of version v is out of range, v being present and the first of it in window t. Cost: a look for each field version
-// of the item number.
+// Whether version v is present, the first of its item number, and that out of range; `done` marks the classes that were counted, and v + 1 is the
+// token of v, above all that were given before. Cost: a look for each field version of the item number.
 pub fn item_breaks(
     begin: &[u16],
     end: &[u16],
@@ -81,27 +71,26 @@ pub fn item_breaks(
     distinct: bool,
     low: usize,
     high: usize,
-    from: u16,
-    to: u16,
-    t: u16,
+    from: usize,
+    to: usize,
     v: usize,
-    done: &mut [u16],
-    seen: &mut [u32],
+    done: &mut [u8],
+    seen: &mut [u16],
 ) -> bool
-    requires { ⌜ (v < length (now begin)) × Fits (length (now begin)) (now end) (now rep) (now group) (now last) (now lower) (now done) (now seen) × ((row : ℕ → Bool) × Chain row (length (now begin)) (getD (now last) (getD (now group) v 0) 0) (now lower)) × Below (t * limit + v) (now seen) ⌝ }
-    ensures met { λ r. ⌜ ((row : ℕ → Bool) → Chain row (length (now (begin .entry))) (getD (now (last .entry)) (getD (now (group .entry)) v 0) 0) (now (lower .entry)) → Met (touches (now (begin .entry)) (now (end .entry)) from to v) (breaks (touches (now (begin .entry)) (now (end .entry)) from to) (length (now (begin .entry))) (λ f. getD (now (rep .entry)) f 0) distinct low high row) (getD (now (group .entry)) v 0) t (now (done .entry)) (now (done .exit)) r) ⌝ }
-    ensures tokens { λ r. ⌜ UpTo (t * limit + v) (now (seen .exit)) ⌝ }
+    requires { ⌜ (v < length (now begin)) × Fits (length (now begin)) (now end) (now rep) (now group) (now last) (now lower) (now done) (now seen) × ((row : ℕ → Bool) × Chain row (length (now begin)) (getD (now last) (getD (now group) v 0) 0) (now lower)) × Below (v + 1) (now seen) ⌝ }
+    ensures met { λ r. ⌜ ((row : ℕ → Bool) → Chain row (length (now (begin .entry))) (getD (now (last .entry)) (getD (now (group .entry)) v 0) 0) (now (lower .entry)) → Met (touches (now (begin .entry)) (now (end .entry)) from to v) (breaks (touches (now (begin .entry)) (now (end .entry)) from to) (length (now (begin .entry))) (λ f. getD (now (rep .entry)) f 0) distinct low high row) (getD (now (group .entry)) v 0) (now (done .entry)) (now (done .exit)) r) ⌝ }
+    ensures tokens { λ r. ⌜ UpTo (v + 1) (now (seen .exit)) ⌝ }
 {
     if !present(begin, end, from, to, v) {
         return false;
     }
     let g = index(group[v]);
-    if done[g] == t {
+    if done[g] == 1 {
         return false;
     }
-    done[g] = t;
+    done[g] = 1;
     let past = index(last[g]);
-    let own = token(t, v);
+    let own = (v + 1) as u16;
     let number = tally(begin, end, rep, lower, distinct, from, to, past, own, seen);
     (number < low) | (high < number)
 }

@@ -6,3 +6,4 @@ pub mod Walking
 pub mod Single
 pub mod Offence
 pub mod Termwise
+pub mod Settling

@@ -1,17 +1,17 @@
--- What is done with one row, a law for each way out of the code: the answer, and the stamps that are left.
+-- What is done with one row, a law for each way out of the code: the answer, and the marks that are left.
 use mathlib.Core.Path.{_≡_, refl, sym, _∙_, ap}
 use mathlib.Core.Logic.{⊎-elim}
 use mathlib.Core.Bool.{Bool, true, false, _&&_, _||_, not, cond, or-false, false≢true}
 use mathlib.Core.List.{List}
 use Prim.Native.Nat.{ℕ, _<_}
-use native.Mathlib.Omega.{arith}
 use lib.Dec.{eqb}
 use lib.ListN.{length, set}
 use lib.Seq.{getD-set-same, getD-set-other}
 use borrow.Author.Tests.{eqb-true, eqb-false, eq-eqb, ne-eqb}
 use Rattle.meaning.proofs.Basics.{went, and-same, or-r}
+use Rattle.marks.specs.Marks.{marked}
 use Rattle.day.specs.Ready.{counted, referring}
-use Rattle.day.specs.Row.{UpTo, stamped, number, only, Tallied, outside, wrong, keeps, rowBreaks, rowKeeps, Met}
+use Rattle.day.specs.Row.{number, only, Tallied, outside, wrong, keeps, rowBreaks, rowKeeps, Met}
 
 -- a row is settled if its number is outside, its mode asks no more, or it has not one value only
 abbrev settled : Bool → Bool → Bool → Bool
@@ -43,26 +43,19 @@ open-keeps false true k r q e = absurd (false≢true (sym e))
 open-keeps false false false r q e = absurd (false≢true (sym e))
 open-keeps false false true r q e = refl
 
--- one stamp more
-pub set-stamped : (t : ℕ) (stamps : List ℕ) (x : ℕ) → x < length stamps → (y : ℕ) → stamped t (set stamps x t) y ≡ (stamped t stamps y || eqb x y)
-set-stamped t stamps x h y =
+-- one mark more
+pub set-marked : (marks : List ℕ) (x : ℕ) → x < length marks → (y : ℕ) → marked (set marks x 1) y ≡ (marked marks y || eqb x y)
+set-marked marks x h y =
     ⊎-elim
     (λ i. let e : x ≡ y = eqb-true x y i in
-    rw (sym e, getD-set-same stamps x t 0 h, eq-eqb t t refl) (sym (or-r (stamped t stamps x) (eqb x x) (eq-eqb x x refl))))
-    (λ i. rw (getD-set-other stamps x y t 0 (λ q. eqb-false x y i (sym q)), i) (sym (or-false (stamped t stamps y))))
+    rw (sym e, getD-set-same marks x 1 0 h) (sym (or-r (marked marks x) (eqb x x) (eq-eqb x x refl))))
+    (λ i. rw (getD-set-other marks x y 1 0 (λ q. eqb-false x y i (sym q)), i) (sym (or-false (marked marks y))))
     (went (eqb x y))
 
-pub set-up-to : (t : ℕ) (stamps : List ℕ) (x : ℕ) → x < length stamps → UpTo t stamps → UpTo t (set stamps x t)
-set-up-to t stamps x h b y =
-    ⊎-elim
-    (λ i. rw (eqb-true y x i, getD-set-same stamps x t 0 h) (omega arith))
-    (λ i. rw (getD-set-other stamps x y t 0 (eqb-false y x i)) (b y))
-    (went (eqb y x))
-
-module _ (p : ℕ → Bool) (n : ℕ) (rep : ℕ → ℕ) (mode low high : ℕ) (row : ℕ → Bool) (v t : ℕ) (stamps : List ℕ) where
+module _ (p : ℕ → Bool) (n : ℕ) (rep : ℕ → ℕ) (mode low high : ℕ) (row : ℕ → Bool) (v : ℕ) (seen : List ℕ) where
   -- the version is not present
-  pub met-absent : p v ≡ false → Met p n rep mode low high row v t stamps stamps false
-  met-absent e = record { answers = rw e; stamps = λ y. rw e (sym (or-false (stamped t stamps y))); up-to = λ h. h }
+  pub met-absent : p v ≡ false → Met p n rep mode low high row v seen seen false
+  met-absent e = record { answers = rw e; marks = λ y. rw e (sym (or-false (marked seen y))) }
 
   -- it is, and c of its row are, x standing for the last
   module _ (e : p v ≡ true) (c x : ℕ) (found : Tallied p n row rep c x) where
@@ -70,44 +63,41 @@ module _ (p : ℕ → Bool) (n : ℕ) (rep : ℕ → ℕ) (mode low high : ℕ) 
     unfolding only
     only-by test = rw (sym (found .counts)) (and-same (eqb c 1) _ (test x) (λ i. found .stands (eqb-true c 1 i) test))
 
-    breaks-by : p v && rowBreaks p n rep mode low high row (stamped t stamps)
-        ≡ (outside low high c || (eqb c 1 && cond (eqb mode counted) false (cond (eqb mode referring) (not (stamped t stamps x)) (stamped t stamps x))))
+    breaks-by : p v && rowBreaks p n rep mode low high row (marked seen)
+        ≡ (outside low high c || (eqb c 1 && cond (eqb mode counted) false (cond (eqb mode referring) (not (marked seen x)) (marked seen x))))
     unfolding rowBreaks wrong
-    breaks-by = rw (e, sym (found .counts)) (ap (λ b. outside low high c || b) (only-by (λ z. wrong mode (stamped t stamps z))))
+    breaks-by = rw (e, sym (found .counts)) (ap (λ b. outside low high c || b) (only-by (λ z. wrong mode (marked seen z))))
 
     keeps-by : (y : ℕ) → p v && rowKeeps p n rep mode low high row y ≡ (not (eqb mode counted) && not (eqb mode referring) && (not (outside low high c) && (eqb c 1 && eqb x y)))
     unfolding rowKeeps keeps
     keeps-by y = rw (e, sym (found .counts)) (ap (λ b. keeps mode && (not (outside low high c) && b)) (only-by (λ z. eqb z y)))
 
-    pub met-settled : settled (outside low high c) (eqb mode counted) (eqb c 1) ≡ true → Met p n rep mode low high row v t stamps stamps (outside low high c)
+    pub met-settled : settled (outside low high c) (eqb mode counted) (eqb c 1) ≡ true → Met p n rep mode low high row v seen seen (outside low high c)
     met-settled s =
         record {
-          answers = sym (breaks-by ∙ settled-answer (outside low high c) (eqb mode counted) (eqb c 1) (eqb mode referring) (stamped t stamps x) s);
-          stamps = λ y. sym (ap (λ b. stamped t stamps y || b) (keeps-by y ∙ settled-keeps (outside low high c) (eqb mode counted) (eqb c 1) (eqb mode referring) (eqb x y) s) ∙ or-false (stamped t stamps y));
-          up-to = λ h. h;
+          answers = sym (breaks-by ∙ settled-answer (outside low high c) (eqb mode counted) (eqb c 1) (eqb mode referring) (marked seen x) s);
+          marks = λ y. sym (ap (λ b. marked seen y || b) (keeps-by y ∙ settled-keeps (outside low high c) (eqb mode counted) (eqb c 1) (eqb mode referring) (eqb x y) s) ∙ or-false (marked seen y));
         }
 
     module _ (s : settled (outside low high c) (eqb mode counted) (eqb c 1) ≡ false) where
-      answer-by : p v && rowBreaks p n rep mode low high row (stamped t stamps) ≡ cond (eqb mode referring) (not (stamped t stamps x)) (stamped t stamps x)
-      answer-by = breaks-by ∙ open-answer (outside low high c) (eqb mode counted) (eqb c 1) (eqb mode referring) (stamped t stamps x) s
+      answer-by : p v && rowBreaks p n rep mode low high row (marked seen) ≡ cond (eqb mode referring) (not (marked seen x)) (marked seen x)
+      answer-by = breaks-by ∙ open-answer (outside low high c) (eqb mode counted) (eqb c 1) (eqb mode referring) (marked seen x) s
 
-      kept-by : (y : ℕ) → stamped t stamps y || (p v && rowKeeps p n rep mode low high row y) ≡ (stamped t stamps y || (not (eqb mode referring) && eqb x y))
-      kept-by y = ap (λ b. stamped t stamps y || b) (keeps-by y ∙ open-keeps (outside low high c) (eqb mode counted) (eqb c 1) (eqb mode referring) (eqb x y) s)
+      kept-by : (y : ℕ) → marked seen y || (p v && rowKeeps p n rep mode low high row y) ≡ (marked seen y || (not (eqb mode referring) && eqb x y))
+      kept-by y = ap (λ b. marked seen y || b) (keeps-by y ∙ open-keeps (outside low high c) (eqb mode counted) (eqb c 1) (eqb mode referring) (eqb x y) s)
 
-      pub met-referring : mode ≡ referring → Met p n rep mode low high row v t stamps stamps (not (stamped t stamps x))
+      pub met-referring : mode ≡ referring → Met p n rep mode low high row v seen seen (not (marked seen x))
       met-referring i =
           let r = eq-eqb mode referring i in
           record {
             answers = sym (answer-by ∙ rw r);
-            stamps = λ y. sym (kept-by y ∙ rw r (or-false (stamped t stamps y)));
-            up-to = λ h. h;
+            marks = λ y. sym (kept-by y ∙ rw r (or-false (marked seen y)));
           }
 
-      pub met-distinct : (mode ≡ referring → ⊥) → x < length stamps → Met p n rep mode low high row v t stamps (set stamps x t) (stamped t stamps x)
+      pub met-distinct : (mode ≡ referring → ⊥) → x < length seen → Met p n rep mode low high row v seen (set seen x 1) (marked seen x)
       met-distinct i room =
           let r = ne-eqb mode referring i in
           record {
             answers = sym (answer-by ∙ rw r);
-            stamps = λ y. set-stamped t stamps x room y ∙ sym (kept-by y ∙ rw r);
-            up-to = set-up-to t stamps x room;
+            marks = λ y. set-marked seen x room y ∙ sym (kept-by y ∙ rw r);
           }

@@ -2,12 +2,12 @@
 use mathlib.Core.Path.{_≡_, refl, sym, _∙_, ap, ap₂, fun-ext}
 use mathlib.Core.Bool.{Bool, true, false, _&&_, _||_, not, and-comm, and-assoc, and-true, and-false, or-false}
 use mathlib.Core.List.{List}
-use Prim.Native.Nat.{ℕ, zero, suc, _<_}
+use Prim.Native.Nat.{ℕ, zero, suc}
 use native.Mathlib.Omega.{arith}
 use lib.IntN.{pos}
 use lib.Dec.{eqb, ltb}
 use lib.ListN.{length, getD}
-use borrow.Author.Tests.{eqb-true, eq-eqb, ne-eqb}
+use borrow.Author.Tests.{eqb-true, eq-eqb}
 use Rattle.meaning.specs.declared.Rule.{Rule}
 use Rattle.meaning.specs.Walk.{any, count, first}
 use Rattle.meaning.specs.Document.{Doc, isVersion}
@@ -18,10 +18,12 @@ use Rattle.meaning.proofs.Basics.{and-l, and-same}
 use Rattle.meaning.proofs.Walks.{any-none, any-same, count-same, first-same}
 use Rattle.meaning.proofs.Selects.{selected-version, field-version}
 use Rattle.columns.specs.Lent.{Periods}
+use Rattle.marks.specs.Marks.{marked}
 use Rattle.values.specs.Represents.{Represents}
 use Rattle.prepare.specs.Rows.{wantsBy, wants, inRow}
-use Rattle.day.specs.Ready.{counted, distinct, referring, TermsBy, Terms, Ready, Referred}
-use Rattle.day.specs.Row.{lasts, stamped, number, only, outside, wrong, keeps, rowBreaks}
+use Rattle.day.specs.Ready.{counted, distinct, referring, TermsBy, Terms, Ready}
+use Rattle.day.specs.Settled.{Posed, offenderAlive}
+use Rattle.day.specs.Row.{lasts, number, only, outside, wrong, keeps, rowBreaks}
 use Rattle.day.specs.Table.{holder, seenBelow, rowOffends}
 use Rattle.day.proofs.Single.{One, one, any-count, eqb-sym, outside-one, outside-most, outside-within}
 
@@ -107,7 +109,7 @@ module _ (doc : Doc) (begins ends reps : List ℕ) (periods : Periods doc begins
         → any (holds (rep (o .at))) 0 k ≡ any (sharesOnly doc (alive doc d) r v q) 0 k
     shares-any r v s o k = any-same _ _ 0 k (λ u a b. shares-is r v s o u)
 
-  -- by the kind k of r: old are the stamps before the first row, of the rule referred to or of none
+  -- by the kind k of r: old are the marks before the first row, of the rule referred to or of none
   module _ (q r : Rule) (referred : isReference r ≡ true → (f : ℕ) → wants doc q f ≡ valued doc f) (sequenced : isSequenced r ≡ true) (mode low high : ℕ) (old : ℕ → Bool)
       (fresh : (mode ≡ referring → ⊥) → (y : ℕ) → old y ≡ false)
       (stands : isReference r ≡ true → mode ≡ referring → (y : ℕ) → old y ≡ any (holder p (doc .size) rep (selected doc q) (inRow doc q) y) 0 (doc .size)) where
@@ -198,37 +200,36 @@ module _ (doc : Doc) (begins ends reps : List ℕ) (periods : Periods doc begins
         behind false x y k l h g = refl
 
 -- the lists of a rule, and of the rule that it refers to
-module _ (start : ℕ) (next last lower : List ℕ) (start′ : ℕ) (next′ last′ lower′ : List ℕ) (begins ends reps : List ℕ) (d mode low high t : ℕ) where
-  -- the first row that offends, by these stamps, is the first version that does
+module _ (start : ℕ) (next last lower : List ℕ) (start′ : ℕ) (next′ last′ lower′ : List ℕ) (begins ends reps : List ℕ) (d mode low high : ℕ) where
+  -- the first row that offends, by these marks, is the first version that does
   abbrev Answers : List ℕ → Type 0
-  Answers stamps =
-      (doc : Doc) (q r : Rule) → Ready doc r start next last lower begins ends reps
-      → (isReference r ≡ true → Referred doc q start′ next′ last′ lower′ begins ends reps) → isSequenced r ≡ true → Terms r mode low high
-      → first (rowOffends (lasts begins ends d) (length begins) (λ f. getD reps f 0) (selected doc r) (inRow doc r) mode (stamped t stamps) low high) 0 (length begins)
-      ≡ first (offends doc (alive doc d) q r) 0 (doc .size)
+  Answers marks =
+      (doc : Doc) (q r : Rule) → Posed doc q r start next last lower start′ next′ last′ lower′ begins ends reps mode low high
+      → first (rowOffends (lasts begins ends d) (length begins) (λ f. getD reps f 0) (selected doc r) (inRow doc r) mode (marked marks) low high) 0 (length begins)
+      ≡ offenderAlive doc q r d
 
-  -- the stamps tell the only values of the rule referred to
-  pub answers-referring : mode ≡ referring → (stamps stamps′ : List ℕ) → stamps ≡ stamps′
+  -- the marks tell the only values of the rule referred to
+  pub answers-referring : mode ≡ referring → (marks marks′ : List ℕ) → marks ≡ marks′
       → ((doc : Doc) (q : Rule) → Ready doc q start′ next′ last′ lower′ begins ends reps → (y : ℕ)
-      → stamped t stamps′ y ≡ any (holder (lasts begins ends d) (length begins) (λ f. getD reps f 0) (selected doc q) (inRow doc q) y) 0 (length begins))
-      → Answers stamps
-  answers-referring m stamps stamps′ e holders doc q r s referred sequenced terms =
-      let n = s .periods .begin .size in
+      → marked marks′ y ≡ any (holder (lasts begins ends d) (length begins) (λ f. getD reps f 0) (selected doc q) (inRow doc q) y) 0 (length begins))
+      → Answers marks
+  answers-referring m marks marks′ e holders doc q r s =
+      let n = s .ready .periods .begin .size in
       rw n
       (first-same _ _ 0 (doc .size)
       (λ v a b.
-      offends-is doc begins ends reps (s .periods) (s .represents) d q r (λ k. referred k .valued-only) sequenced mode low high (stamped t stamps)
+      offends-is doc begins ends reps (s .ready .periods) (s .ready .represents) d q r (λ k. s .referred k .valued-only) (s .sequenced) mode low high (marked marks)
       (λ i. absurd (i m))
-      (λ k i y. rw e (rw n at (holders doc q (referred k .ready) y)))
-      terms v))
+      (λ k i y. rw e (rw n at (holders doc q (s .referred k .ready) y)))
+      (s .terms) v))
 
-  -- the stamps tell nothing yet
-  pub answers-fresh : (mode ≡ referring → ⊥) → (stamps stamps′ : List ℕ) → stamps ≡ stamps′ → ((x : ℕ) → getD stamps′ x 0 < t) → Answers stamps
-  answers-fresh m stamps stamps′ e low′ doc q r s referred sequenced terms =
-      rw (s .periods .begin .size)
+  -- the marks tell nothing yet
+  pub answers-fresh : (mode ≡ referring → ⊥) → (marks marks′ : List ℕ) → marks ≡ marks′ → ((x : ℕ) → marked marks′ x ≡ false) → Answers marks
+  answers-fresh m marks marks′ e none doc q r s =
+      rw (s .ready .periods .begin .size)
       (first-same _ _ 0 (doc .size)
       (λ v a b.
-      offends-is doc begins ends reps (s .periods) (s .represents) d q r (λ k. referred k .valued-only) sequenced mode low high (stamped t stamps)
-      (λ i y. rw e (ne-eqb (getD stamps′ y 0) t (λ z. omega (arith, low′ y))))
+      offends-is doc begins ends reps (s .ready .periods) (s .ready .represents) d q r (λ k. s .referred k .valued-only) (s .sequenced) mode low high (marked marks)
+      (λ i y. rw e (none y))
       (λ k i. absurd (m i))
-      terms v))
+      (s .terms) v))

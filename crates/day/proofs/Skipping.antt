@@ -51,15 +51,15 @@ module _ (doc : Doc) (r : Rule) (start : ℕ) (next last lower begins ends reps 
         chains = λ v h c. record { last-is = s .rows .last-is v h c; lower-is = λ f g i. s .rows .lower-is v f h g i };
       })
 
-  pub fits : (stamps : List ℕ) → doc .size ≤ length stamps → Fits (length begins) last lower ends reps stamps
-  fits stamps room =
+  pub fits : (marks : List ℕ) → doc .size ≤ length marks → Fits (length begins) last lower ends reps marks
+  fits marks room =
       rw sized
       (record {
         last-room = s .rows .last-room;
         lower-room = s .rows .lower-room;
         end-room = omega (arith, s .periods .end .size);
         rep-room = s .represents .room;
-        stamp-room = room;
+        mark-room = room;
         rep-low = s .represents .low;
       })
 

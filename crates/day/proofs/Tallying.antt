@@ -7,9 +7,9 @@ use Prim.Native.Nat.{ℕ, zero, suc, _+_, _-_, _≤_, _<_}
 use native.Mathlib.Omega.{arith}
 use lib.Dec.{eqb, ltb}
 use lib.ListN.{getD}
-use borrow.Author.Tests.{eqb-true, eq-eqb, ne-eqb, lt-ltb}
+use borrow.Author.Tests.{eq-eqb, ne-eqb, lt-ltb}
 use Rattle.meaning.specs.Walk.{any, count}
-use Rattle.meaning.proofs.Basics.{went, never, clear, and-l, and-r}
+use Rattle.meaning.proofs.Basics.{went, never, clear, and-l}
 use Rattle.meaning.proofs.Walks.{any-none}
 use Rattle.meaning.proofs.Loops.{any-last}
 use Rattle.meaning.proofs.Says.{says}
@@ -141,16 +141,6 @@ module _ (p : ℕ → Bool) (n : ℕ) (row : ℕ → Bool) (rep : ℕ → ℕ) w
               rw (eq-eqb (c + 1) 1 o)
               (sym (rw y at (top-any test)) ∙ sym (or-false (any (asked test) 0 at)) ∙ rw (ne-eqb c 1 (omega arith)) at (s .one (omega arith) test));
         }
-
-  -- a row of one record, which is present
-  pub tallied-alone : (past : ℕ) (lower : List ℕ) → Chain row n past lower → (v : ℕ) → (eqb past (v + 1) && eqb (getD lower v 0) 0) ≡ true → p v ≡ true
-      → (x : ℕ) → x ≡ rep v → Tallied p n row rep 1 x
-  tallied-alone past lower ch v alone y x i =
-      let e : past ≡ v + 1 = eqb-true past (v + 1) (and-l (eqb past (v + 1)) _ alone) in
-      let l : getD lower v 0 ≡ 0 = eqb-true (getD lower v 0) 0 (and-r (eqb past (v + 1)) _ alone) in
-      let v-is : v ≡ past - 1 = omega (arith, e) in
-      let first = counted-more past 0 0 (counted-start past 0 lower ch) (omega (arith, e)) past lower ch 0 (rw (sym v-is) (sym l)) (rw (sym v-is) y) in
-      rw (i, v-is) (counted-end 0 1 (rep (past - 1)) first (omega arith))
 
 -- a chain that starts where another does
 pub chain-from : (row : ℕ → Bool) (n past : ℕ) (lower : List ℕ) (start : ℕ) → start ≡ past → Chain row n past lower → Chain row n start lower

@@ -2,3 +2,4 @@
 pub mod Ready
 pub mod Row
 pub mod Table
+pub mod Settled

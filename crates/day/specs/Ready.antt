@@ -1,13 +1,15 @@
--- What the offender of one day is worked out from: a rule's rows, periods and representatives, the bounds of its counts, and a stamp for each value.
+-- What the offender of one day is worked out from: a rule's rows, periods and representatives, the bounds of its counts, and a mark for each value.
 use mathlib.Core.Path.{_≡_}
+use mathlib.Core.Bool.{false}
 use mathlib.Core.List.{List}
-use Prim.Native.Nat.{ℕ, zero, suc, _≤_, _<_}
+use Prim.Native.Nat.{ℕ, zero, suc, _≤_}
 use lib.IntN.{pos}
-use lib.ListN.{length, getD}
+use lib.ListN.{length}
 use Rattle.meaning.specs.declared.Rule.{Rule}
 use Rattle.meaning.specs.Document.{Doc}
 use Rattle.meaning.specs.Select.{valued}
 use Rattle.columns.specs.Lent.{Periods}
+use Rattle.marks.specs.Marks.{marked}
 use Rattle.values.specs.Represents.{Represents}
 use Rattle.prepare.specs.Rows.{wants, Rows}
 
@@ -44,7 +46,7 @@ TermsBy r (suc (suc (suc (suc (suc k))))) mode low high = (mode ≡ counted) × 
 unfoldable pub Terms : Rule → ℕ → ℕ → ℕ → Type 0
 Terms r mode low high = TermsBy r (r .kind) mode low high
 
--- a stamp for each record, all below t
-pub record Stamps (n t : ℕ) (stamps : List ℕ) : Type 0 where
-  pub room : n ≤ length stamps
-  pub low : (x : ℕ) → getD stamps x 0 < t
+-- a clear mark for each of n records
+pub record Clear (n : ℕ) (marks : List ℕ) : Type 0 where
+  pub room : n ≤ length marks
+  pub none : (x : ℕ) → marked marks x ≡ false

@@ -1,4 +1,4 @@
--- One row on a day: how many of its records are present, what is asked of the only one, when it offends, and what it leaves stamped.
+-- One row on a day: how many of its records are present, what is asked of the only one, when it offends, and what it leaves marked.
 use mathlib.Core.Path.{_≡_}
 use mathlib.Core.Bool.{Bool, true, false, _&&_, _||_, not, cond}
 use mathlib.Core.List.{List}
@@ -7,6 +7,7 @@ use lib.Dec.{leb, ltb, eqb}
 use lib.ListN.{length, getD}
 use Rattle.meaning.specs.Walk.{any, count}
 use Rattle.columns.specs.Chains.{pastLast}
+use Rattle.marks.specs.Marks.{marked}
 use Rattle.day.specs.Ready.{counted, referring}
 
 -- the period of record i, begin to end, has day d
@@ -19,21 +20,13 @@ pub record Chain (row : ℕ → Bool) (n past : ℕ) (lower : List ℕ) : Type 0
   pub lower-is : (f : ℕ) → f < n → row f ≡ true → getD lower f 0 ≡ pastLast row f
 
 -- n entries or more in each list, and representatives that are record numbers
-pub record Fits (n : ℕ) (last lower ends reps stamps : List ℕ) : Type 0 where
+pub record Fits (n : ℕ) (last lower ends reps marks : List ℕ) : Type 0 where
   pub last-room : n ≤ length last
   pub lower-room : n ≤ length lower
   pub end-room : n ≤ length ends
   pub rep-room : n ≤ length reps
-  pub stamp-room : n ≤ length stamps
+  pub mark-room : n ≤ length marks
   pub rep-low : (f : ℕ) → f < n → getD reps f 0 < n
-
--- every stamp is at most t
-abbrev pub UpTo : ℕ → List ℕ → Type 0
-UpTo t stamps = (x : ℕ) → getD stamps x 0 ≤ t
-
--- record x is stamped t
-abbrev pub stamped : ℕ → List ℕ → ℕ → Bool
-stamped t stamps x = eqb (getD stamps x 0) t
 
 -- a row of n records, those that p passes being present
 module _ (p : ℕ → Bool) (n : ℕ) (row : ℕ → Bool) where
@@ -58,7 +51,7 @@ outside low high c = ltb c low || ltb high c
 unfoldable pub wrong : ℕ → Bool → Bool
 wrong mode seen = cond (eqb mode counted) false (cond (eqb mode referring) (not seen) seen)
 
--- by the mode, an only value is stamped
+-- by the mode, an only value is marked
 unfoldable pub keeps : ℕ → Bool
 keeps mode = not (eqb mode counted) && not (eqb mode referring)
 
@@ -67,12 +60,11 @@ module _ (p : ℕ → Bool) (n : ℕ) (rep : ℕ → ℕ) (mode low high : ℕ) 
   unfoldable pub rowBreaks : (ℕ → Bool) → (ℕ → Bool) → Bool
   rowBreaks row seen = outside low high (number p n row) || only p n row rep (λ x. wrong mode (seen x))
 
-  -- a row leaves y stamped
+  -- a row leaves y marked
   unfoldable pub rowKeeps : (ℕ → Bool) → ℕ → Bool
   rowKeeps row y = keeps mode && (not (outside low high (number p n row)) && only p n row rep (λ x. eqb x y))
 
-  -- what was done with the row of record v: the answer, and the stamps
-  pub record Met (row : ℕ → Bool) (v t : ℕ) (before after : List ℕ) (answer : Bool) : Type 0 where
-    pub answers : answer ≡ (p v && rowBreaks row (stamped t before))
-    pub stamps : (y : ℕ) → stamped t after y ≡ (stamped t before y || (p v && rowKeeps row y))
-    pub up-to : UpTo t before → UpTo t after
+  -- what was done with the row of record v: the answer, and the marks
+  pub record Met (row : ℕ → Bool) (v : ℕ) (before after : List ℕ) (answer : Bool) : Type 0 where
+    pub answers : answer ≡ (p v && rowBreaks row (marked before))
+    pub marks : (y : ℕ) → marked after y ≡ (marked before y || (p v && rowKeeps row y))

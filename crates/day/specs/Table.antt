@@ -11,7 +11,7 @@ module _ (p : ℕ → Bool) (n : ℕ) (rep : ℕ → ℕ) (chosen : ℕ → Bool
   holder y u = chosen u && (p u && only p n (rows u) rep (λ x. eqb x y))
 
   module _ (mode : ℕ) (old : ℕ → Bool) where
-    -- y was seen before record v: in the stamps that were there, or where rows are stamped, in a lower row
+    -- y was seen before record v: in the marks that were there, or where rows are marked, in a lower row
     unfoldable pub seenBelow : ℕ → ℕ → Bool
     seenBelow v y = old y || (keeps mode && any (holder y) 0 v)
 

@@ -1,20 +1,27 @@
 // The lowest offender of one day, for a sequenced rule of any kind.
+use columns::LIMIT;
 use meaning::Found;
+use meaning::Rule;
 use numbers::index;
+use places::Place;
+use prepare::Prepared;
 ghost use mathlib.Core.Path.{_≡_};
 ghost use mathlib.Core.Bool.{true};
-ghost use Prim.Native.Nat.{ℕ, _+_, _<_, _≤_};
+ghost use Prim.Native.Nat.{ℕ, _≤_};
 ghost use lib.ListN.{length, getD};
 ghost use Rattle.meaning.specs.declared.Rule.{Rule};
 ghost use Rattle.meaning.specs.Walk.{any, first};
 ghost use Rattle.meaning.specs.Document.{Doc};
-ghost use Rattle.meaning.specs.Rules.{isReference, isSequenced};
+ghost use Rattle.meaning.specs.Block.{limit};
+ghost use Rattle.meaning.specs.Rules.{isSequenced, ruleFields};
 ghost use Rattle.meaning.specs.Select.{selected};
-ghost use Rattle.meaning.specs.Day.{alive, offends};
+ghost use Rattle.meaning.specs.Day.{offender};
+ghost use Rattle.marks.specs.Marks.{marked};
 ghost use Rattle.prepare.specs.Rows.{inRow};
-ghost use Rattle.day.specs.Ready.{Ready, Referred, Terms, Stamps};
-ghost use Rattle.day.specs.Row.{lasts, UpTo, stamped};
+ghost use Rattle.day.specs.Ready.{Ready, Clear};
+ghost use Rattle.day.specs.Row.{lasts};
 ghost use Rattle.day.specs.Table.{holder, rowOffends};
+ghost use Rattle.day.specs.Settled.{Posed, offenderAlive, Settled};
 
 mod row; // row.rt: one row of a rule on a day
 pub mod terms; // terms.rt: how a rule of each kind counts
@@ -26,8 +33,8 @@ pub const DISTINCT: u8 = 1;
 
 pub const REFERRING: u8 = 2;
 
-// Stamps the only value of each row. Cost: a look for each selected version and each of its wanted field versions.
-fn stamp_rows(
+// Marks the only value of each row. Cost: a look for each selected version and each of its wanted field versions.
+fn mark_rows(
     start: usize,
     next: &[u16],
     last: &[u16],
@@ -35,17 +42,15 @@ fn stamp_rows(
     begin: &[u16],
     end: &[u16],
     rep: &[u16],
-    d: u16,
-    t: u16,
-    stamp: &mut [u16],
+    d: usize,
+    seen: &mut [u8],
 )
-    requires { ⌜ ((doc : Doc) × (r : Rule) × Ready doc r start (now next) (now last) (now lower) (now begin) (now end) (now rep) × Stamps (doc .size) t (now stamp)) ⌝ }
-    ensures holders { λ x. ⌜ ((doc : Doc) → (r : Rule) → Ready doc r start (now (next .entry)) (now (last .entry)) (now (lower .entry)) (now (begin .entry)) (now (end .entry)) (now (rep .entry)) → (y : ℕ) → stamped t (now (stamp .exit)) y ≡ any (holder (lasts (now (begin .entry)) (now (end .entry)) d) (length (now (begin .entry))) (λ f. getD (now (rep .entry)) f 0) (selected doc r) (inRow doc r) y) 0 (length (now (begin .entry)))) ⌝ }
-    ensures stamps { λ x. ⌜ UpTo t (now (stamp .exit)) ⌝ }
+    requires { ⌜ ((doc : Doc) × (r : Rule) × Ready doc r start (now next) (now last) (now lower) (now begin) (now end) (now rep) × Clear (doc .size) (now seen)) ⌝ }
+    ensures { λ x. ⌜ ((doc : Doc) → (r : Rule) → Ready doc r start (now (next .entry)) (now (last .entry)) (now (lower .entry)) (now (begin .entry)) (now (end .entry)) (now (rep .entry)) → (y : ℕ) → marked (now (seen .exit)) y ≡ any (holder (lasts (now (begin .entry)) (now (end .entry)) d) (length (now (begin .entry))) (λ f. getD (now (rep .entry)) f 0) (selected doc r) (inRow doc r) y) 0 (length (now (begin .entry)))) ⌝ }
 {
     let mut v = start;
     while v < begin.len() {
-        row::row_offends(last, lower, begin, end, rep, d, v, DISTINCT, 0, 1, t, stamp);
+        row::row_offends(last, lower, begin, end, rep, d, v, DISTINCT, 0, 1, seen);
         v = index(next[v]);
     }
 }
@@ -59,33 +64,18 @@ fn first_row(
     begin: &[u16],
     end: &[u16],
     rep: &[u16],
-    d: u16,
+    d: usize,
     mode: u8,
     low: usize,
     high: usize,
-    t: u16,
-    stamp: &mut [u16],
+    seen: &mut [u8],
 ) -> Found
-    requires { ⌜ ((doc : Doc) × (r : Rule) × Ready doc r start (now next) (now last) (now lower) (now begin) (now end) (now rep) × (doc .size ≤ length (now stamp)) × UpTo t (now stamp)) ⌝ }
-    ensures answer { λ x. ⌜ ((doc : Doc) → (r : Rule) → Ready doc r start (now (next .entry)) (now (last .entry)) (now (lower .entry)) (now (begin .entry)) (now (end .entry)) (now (rep .entry)) → x ≡ first (rowOffends (lasts (now (begin .entry)) (now (end .entry)) d) (length (now (begin .entry))) (λ f. getD (now (rep .entry)) f 0) (selected doc r) (inRow doc r) mode (stamped t (now (stamp .entry))) low high) 0 (length (now (begin .entry)))) ⌝ }
-    ensures stamps { λ x. ⌜ UpTo t (now (stamp .exit)) ⌝ }
+    requires { ⌜ ((doc : Doc) × (r : Rule) × Ready doc r start (now next) (now last) (now lower) (now begin) (now end) (now rep) × (doc .size ≤ length (now seen))) ⌝ }
+    ensures { λ x. ⌜ ((doc : Doc) → (r : Rule) → Ready doc r start (now (next .entry)) (now (last .entry)) (now (lower .entry)) (now (begin .entry)) (now (end .entry)) (now (rep .entry)) → x ≡ first (rowOffends (lasts (now (begin .entry)) (now (end .entry)) d) (length (now (begin .entry))) (λ f. getD (now (rep .entry)) f 0) (selected doc r) (inRow doc r) mode (marked (now (seen .entry))) low high) 0 (length (now (begin .entry)))) ⌝ }
 {
     let mut v = start;
     while v < begin.len() {
-        if row::row_offends(
-            last,
-            lower,
-            begin,
-            end,
-            rep,
-            d,
-            v,
-            mode,
-            low,
-            high,
-            t,
-            stamp,
-        ) {
+        if row::row_offends(last, lower, begin, end, rep, d, v, mode, low, high, seen) {
             return Found::At(v);
         }
         v = index(next[v]);
@@ -93,9 +83,9 @@ fn first_row(
     Found::Nothing
 }
 
-// The lowest version that offends on day d a rule whose kind has the given mode and bounds; every stamp is below t before, and at most t after.
+// The lowest offender of day d among the rows of a prepared rule, no value being marked before.
 // Cost: a look for each selected version and each of its wanted field versions, of this rule and of the one that it refers to.
-pub fn offender_on(
+fn offender_on(
     start: usize,
     next: &[u16],
     last: &[u16],
@@ -107,19 +97,17 @@ pub fn offender_on(
     begin: &[u16],
     end: &[u16],
     rep: &[u16],
-    d: u16,
+    d: usize,
     mode: u8,
     low: usize,
     high: usize,
-    t: u16,
-    stamp: &mut [u16],
+    seen: &mut [u8],
 ) -> Found
-    requires { ⌜ ((doc : Doc) × (r : Rule) × (p : Rule) × Ready doc r start (now next) (now last) (now lower) (now begin) (now end) (now rep) × Ready doc p «held_start» (now «held_next») (now «held_last») (now «held_lower») (now begin) (now end) (now rep) × Stamps (doc .size) t (now stamp)) ⌝ }
-    ensures answer { λ x. ⌜ ((doc : Doc) → (q r : Rule) → Ready doc r start (now (next .entry)) (now (last .entry)) (now (lower .entry)) (now (begin .entry)) (now (end .entry)) (now (rep .entry)) → (isReference r ≡ true → Referred doc q «held_start» (now («held_next» .entry)) (now («held_last» .entry)) (now («held_lower» .entry)) (now (begin .entry)) (now (end .entry)) (now (rep .entry))) → isSequenced r ≡ true → Terms r mode low high → x ≡ first (offends doc (alive doc d) q r) 0 (doc .size)) ⌝ }
-    ensures stamps { λ x. ⌜ ((i : ℕ) → getD (now (stamp .exit)) i 0 < t + 1) ⌝ }
+    requires { ⌜ ((doc : Doc) × (r : Rule) × (p : Rule) × Ready doc r start (now next) (now last) (now lower) (now begin) (now end) (now rep) × Ready doc p «held_start» (now «held_next») (now «held_last») (now «held_lower») (now begin) (now end) (now rep) × Clear (doc .size) (now seen)) ⌝ }
+    ensures { λ x. ⌜ ((doc : Doc) → (q r : Rule) → Posed doc q r start (now (next .entry)) (now (last .entry)) (now (lower .entry)) «held_start» (now («held_next» .entry)) (now («held_last» .entry)) (now («held_lower» .entry)) (now (begin .entry)) (now (end .entry)) (now (rep .entry)) mode low high → x ≡ offenderAlive doc q r d) ⌝ }
 {
     if mode == REFERRING {
-        stamp_rows(
+        mark_rows(
             held_start,
             held_next,
             held_last,
@@ -128,8 +116,7 @@ pub fn offender_on(
             end,
             rep,
             d,
-            t,
-            stamp,
+            seen,
         );
     }
     first_row(
@@ -144,7 +131,82 @@ pub fn offender_on(
         mode,
         low,
         high,
-        t,
-        stamp,
+        seen,
+    )
+}
+
+// The same, with marks of its own. Cost: a clear mark for each record, then a look for each selected version and
+// each of its wanted field versions, of this rule and of the one that it refers to.
+fn look<'a>(
+    start: usize,
+    next: &'a [u16],
+    last: &'a [u16],
+    lower: &'a [u16],
+    held_start: usize,
+    held_next: &'a [u16],
+    held_last: &'a [u16],
+    held_lower: &'a [u16],
+    begin: &[u16],
+    end: &[u16],
+    rep: &[u16],
+    d: usize,
+    mode: u8,
+    low: usize,
+    high: usize,
+) -> Found
+    requires { ⌜ ((doc : Doc) × (r : Rule) × (p : Rule) × Ready doc r start (now next) (now last) (now lower) (now begin) (now end) (now rep) × Ready doc p «held_start» (now «held_next») (now «held_last») (now «held_lower») (now begin) (now end) (now rep) × (doc .size ≤ limit)) ⌝ }
+    ensures { λ x. ⌜ ((doc : Doc) → (q r : Rule) → Posed doc q r start (now (next .entry)) (now (last .entry)) (now (lower .entry)) «held_start» (now («held_next» .entry)) (now («held_last» .entry)) (now («held_lower» .entry)) (now (begin .entry)) (now (end .entry)) (now (rep .entry)) mode low high → x ≡ offenderAlive doc q r d) ⌝ }
+{
+    let mut seen = [0u8; LIMIT];
+    offender_on(
+        start,
+        next,
+        last,
+        lower,
+        held_start,
+        held_next,
+        held_last,
+        held_lower,
+        begin,
+        end,
+        rep,
+        d,
+        mode,
+        low,
+        high,
+        &mut seen,
+    )
+}
+
+// The lowest offender of a prepared sequenced rule at a place, which is a day. Cost: that of the look.
+pub fn offender_at(
+    own: Prepared,
+    held: Prepared,
+    begin: &[u16],
+    end: &[u16],
+    rep: &[u16],
+    r: Rule,
+    here: Place,
+) -> Found
+    requires { ⌜ (ruleFields r ≡ true) × ((doc : Doc) × (q : Rule) × Settled doc q r own held (now begin) (now end) (now rep)) ⌝ }
+    ensures { λ x. ⌜ ((doc : Doc) → (q : Rule) → Settled doc q r own held (now (begin .entry)) (now (end .entry)) (now (rep .entry)) → isSequenced r ≡ true → x ≡ offender doc q r (here .from)) ⌝ }
+{
+    let bounds = terms::terms(r);
+    look(
+        own.start,
+        &own.next,
+        &own.last,
+        &own.lower,
+        held.start,
+        &held.next,
+        &held.last,
+        &held.lower,
+        begin,
+        end,
+        rep,
+        here.from,
+        bounds.mode,
+        bounds.low,
+        bounds.high,
     )
 }

@@ -47,12 +47,12 @@ behind : (a x k l : Bool) → (a ≡ true → k ≡ l) → a && (x && k) ≡ (a 
 behind true x k l h = ap (λ z. x && z) (h refl)
 behind false x k l h = refl
 
--- two classes are the same where their tokens in a window are
-tokens-same : (base a b : ℕ) → eqb (base + a) (base + b) ≡ eqb a b
-tokens-same base a b =
+-- two classes are the same where they are when counted from one
+from-one : (a b : ℕ) → eqb (a + 1) (b + 1) ≡ eqb a b
+from-one a b =
     ⊎-elim
-    (λ y. eq-eqb (base + a) (base + b) (ap (λ c. base + c) (eqb-true a b y)) ∙ sym y)
-    (λ z. ne-eqb (base + a) (base + b) (λ q. eqb-false a b z (omega arith)) ∙ sym z)
+    (λ y. eq-eqb (a + 1) (b + 1) (ap (λ c. c + 1) (eqb-true a b y)) ∙ sym y)
+    (λ z. ne-eqb (a + 1) (b + 1) (λ q. eqb-false a b z (omega arith)) ∙ sym z)
     (went (eqb a b))
 
 module _ (doc : Doc) (begins ends reps : List ℕ) (represents : Represents doc reps) (from to : ℕ) where
@@ -118,16 +118,16 @@ module _ (doc : Doc) (begins ends reps : List ℕ) (represents : Represents doc 
         ∙ any-same _ _ 0 (doc .size) (λ f a b. and-same (gives doc p r v f) _ _ (λ i. holder-is r w f (gives-version r w v s f i) u))
         ∙ any-out (present doc p r u) (gives doc p r v) (has doc p r u) (doc .size)
 
-    module _ (groups : List ℕ) (grouped : Groups doc groups) (base : ℕ) where
+    module _ (groups : List ℕ) (grouped : Groups doc groups) where
       abbrev class : ℕ → ℕ
-      class v = base + getD groups v 0
+      class v = getD groups v 0 + 1
 
       rival-is : (v : ℕ) → selected doc r v ≡ true → (u : ℕ) → rival p (doc .size) rep (selected doc r) (inRow doc r) class v u ≡ (not (eqb (numberOf doc u) (numberOf doc v)) && shares doc p r v r u)
       unfolding rival shares
       rival-is v s u =
           ap (λ b. not (eqb (class u) (class v)) && b) (holds-is v s u)
           ∙ before-same _ _ (present doc p r u) _
-          (λ i. ap not (tokens-same base (getD groups u 0) (getD groups v 0) ∙ sym (grouped .same u v (selected-version doc r u (chosen r u i)) (selected-version doc r v s))))
+          (λ i. ap not (from-one (getD groups u 0) (getD groups v 0) ∙ sym (grouped .same u v (selected-version doc r u (chosen r u i)) (selected-version doc r v s))))
 
       shares-is : (needy : Bool) (v : ℕ) → rowShares p (doc .size) rep (selected doc r) (inRow doc r) class needy v ≡ (present doc p r v && ((needy && valueless doc p r v) || sharedIn doc p r v))
       unfolding rowShares present sharedIn
@@ -181,12 +181,12 @@ module _ (start : ℕ) (next last lower begins ends reps : List ℕ) (from to : 
       first-same _ _ 0 (doc .size) (λ v a b. same v)
       ∙ ap (λ (f : ℕ → Bool). first f 0 (doc .size)) (in-window doc begins ends reps (s .represents) from to (s .periods) w e i q r)
 
-  pub shared-answer : (groups : List ℕ) → Groups doc groups → (base : ℕ) (needy : Bool) → ((r .kind ≡ 1) × (needy ≡ true)) ⊎ ((r .kind ≡ 2) × (needy ≡ false))
-      → first (rowShares (during begins ends from to) (length begins) (λ f. getD reps f 0) (selected doc r) (inRow doc r) (λ v. base + getD groups v 0) needy) 0 (length begins)
+  pub shared-answer : (groups : List ℕ) → Groups doc groups → (needy : Bool) → ((r .kind ≡ 1) × (needy ≡ true)) ⊎ ((r .kind ≡ 2) × (needy ≡ false))
+      → first (rowShares (during begins ends from to) (length begins) (λ f. getD reps f 0) (selected doc r) (inRow doc r) (λ v. getD groups v 0 + 1) needy) 0 (length begins)
       ≡ first (offendsIn doc (meets doc w) q r) 0 (doc .size)
-  shared-answer groups grouped base needy kinds =
+  shared-answer groups grouped needy kinds =
       rw (s .periods .begin .size)
-      (answer-by _ (offends-is doc begins ends reps (s .represents) from to q r sequenced groups grouped base needy kinds))
+      (answer-by _ (offends-is doc begins ends reps (s .represents) from to q r sequenced groups grouped needy kinds))
 
   pub missing-answer : (start′ : ℕ) (next′ last′ lower′ : List ℕ) → Referred doc q start′ next′ last′ lower′ begins ends reps → r .kind ≡ 3 → (known : ℕ → Bool)
       → ((y : ℕ) → known y ≡ any (holder (during begins ends from to) (length begins) (λ f. getD reps f 0) (selected doc q) (inRow doc q) y) 0 (length begins))

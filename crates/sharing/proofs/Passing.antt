@@ -10,7 +10,11 @@ use Rattle.meaning.specs.Walk.{first}
 use Rattle.meaning.proofs.Basics.{le-or-lt}
 use Rattle.meaning.proofs.Walks.{first-at, first-none}
 use Rattle.marks.proofs.After.{Next}
-use Rattle.sharing.specs.Table.{Come}
+
+-- the walk has come to record v, a chosen one or the end
+pub record Come (n : ℕ) (chosen : ℕ → Bool) (v : ℕ) : Type 0 where
+  pub most : v ≤ n
+  pub is-chosen : v < n → chosen v ≡ true
 
 module _ (n : ℕ) (chosen : ℕ → Bool) where
   pub come-to : (i v : ℕ) → Next chosen n i v → Come n chosen v

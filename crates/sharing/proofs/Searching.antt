@@ -5,7 +5,8 @@ use mathlib.Core.List.{List}
 use Prim.Native.Nat.{ℕ, _-_, _≤_, _<_}
 use native.Mathlib.Omega.{arith}
 use lib.ListN.{length, getD}
-use Rattle.day.specs.Row.{Chain, stamped}
+use Rattle.marks.specs.Marks.{marked}
+use Rattle.day.specs.Row.{Chain}
 use Rattle.sharing.specs.Row.{someOf, Room}
 use Rattle.sharing.proofs.Descent.{Down, none-left, all-left, stepped, one-there, down-start, down-next}
 
@@ -31,9 +32,9 @@ module _ (n past : ℕ) (lower : List ℕ) (ask : ℕ → Bool) where
     pub searched-end : at ≤ 0 → false ≡ someOf n row ask
     searched-end h = sym (none-left row ask at h) ∙ s .1 row ch
 
--- the code's test of one record, with its representative: not stamped
-pub unstamped-tested : (a b : Bool) (t : ℕ) (stamps : List ℕ) (x y : ℕ) (u : Bool) → a ≡ b → x ≡ y → a && not (stamped t stamps x) ≡ u → b && not (stamped t stamps y) ≡ u
-unstamped-tested a b t stamps x y u e i h = rw (sym e, sym i) h
+-- the code's test of one record, with its representative: not marked
+pub unmarked-tested : (a b : Bool) (marks : List ℕ) (x y : ℕ) (u : Bool) → a ≡ b → x ≡ y → a && not (marked marks x) ≡ u → b && not (marked marks y) ≡ u
+unmarked-tested a b marks x y u e i h = rw (sym e, sym i) h
 
 -- the representative of a record of the row has its entry in a column
 pub entry : (n : ℕ) (lower ends reps column : List ℕ) → Room n lower ends reps column → (at : ℕ) → at ≤ n → 0 < at → (x : ℕ) → x ≡ getD reps (at - 1) 0 → (x < n) × (x < length column)

@@ -1,4 +1,4 @@
--- The walk from row to row: the stamps, or the tokens, tell the values of the rows passed, a token the class of the holders, and none of these rows offends.
+-- The walk from row to row: the marks, or the holders, tell the values of the rows passed, a holder its class, and none of these rows offends.
 use mathlib.Core.Path.{_≡_, refl, sym, _∙_, ap}
 use mathlib.Core.Logic.{⊎-elim}
 use mathlib.Core.Bool.{Bool, true, false, _&&_, _||_, not, cond, or-false}
@@ -6,21 +6,20 @@ use mathlib.Core.List.{List}
 use Prim.Native.Nat.{ℕ, suc, _≤_, _<_}
 use native.Mathlib.Nat.{eq-or-lt-of-le}
 use native.Mathlib.Omega.{arith}
-use lib.Dec.{leb, eqb}
+use lib.Dec.{ltb, eqb}
 use lib.ListN.{getD}
-use borrow.Author.Tests.{ne-eqb, eqb-true, le-leb, lt-leb}
+use borrow.Author.Tests.{eqb-true, lt-ltb, le-ltb}
 use Rattle.meaning.specs.declared.Found.the-variants.{At, Nothing}
 use Rattle.meaning.specs.Walk.{any, first}
 use Rattle.meaning.proofs.Basics.{went, le-or-lt, clear, tests-same, and-l, and-r, both, or-r, neither-r}
 use Rattle.meaning.proofs.Walks.{any-none, any-some, any-true, any-false}
 use Rattle.meaning.proofs.Loops.{any-last}
+use Rattle.marks.specs.Marks.{marked}
 use Rattle.marks.proofs.After.{Next}
-use Rattle.day.specs.Ready.{Stamps}
-use Rattle.day.specs.Row.{stamped}
 use Rattle.day.proofs.Skipping.{any-skips}
 use Rattle.sharing.specs.Row.{someOf, taken, foreign, asks, shows, lacking, Marked, Met}
-use Rattle.sharing.specs.Table.{holder, rival, rowShares, rowMisses, Come, Shared}
-use Rattle.sharing.proofs.Passing.{come-to, Clean, clean-start, clean-step, found-at, found-none}
+use Rattle.sharing.specs.Table.{holder, rival, rowShares, rowMisses}
+use Rattle.sharing.proofs.Passing.{Come, come-to, Clean, clean-start, clean-step, found-at, found-none}
 
 -- one of a row that is present, and has a representative that passes
 pub record One (p : ℕ → Bool) (n : ℕ) (rep : ℕ → ℕ) (row test : ℕ → Bool) : Type 0 where
@@ -45,14 +44,10 @@ module _ (p : ℕ → Bool) (n : ℕ) (rep : ℕ → ℕ) (row test : ℕ → Bo
       any-some (λ f. row f && (p f && test (rep f))) 0 n (o .at)
       (record { from = omega arith; below = omega (arith, o .low); passes = both (row (o .at)) _ (o .in-row) (both (p (o .at)) _ (o .here) (o .passes)) })
 
--- what was not written tells what it told
-pub stamps-still : (n m : ℕ) (tokens tokens′ : List ℕ) → tokens′ ≡ tokens → Stamps n m tokens → Stamps n m tokens′
-stamps-still n m tokens tokens′ e s = rw e s
-
--- an entry that is a token of this window or as it was
-taken-by : (base mine : ℕ) → base ≤ mine → (b : Bool) (k : ℕ) → leb base (cond b mine k) ≡ (leb base k || b)
-taken-by base mine l true k = le-leb base mine l ∙ sym (or-r (leb base k) true refl)
-taken-by base mine l false k = sym (or-false (leb base k))
+-- an entry that is a class counted from one or as it was
+taken-by : (mine : ℕ) → 0 < mine → (b : Bool) (k : ℕ) → ltb 0 (cond b mine k) ≡ (ltb 0 k || b)
+taken-by mine l true k = lt-ltb 0 mine l ∙ sym (or-r (ltb 0 k) true refl)
+taken-by mine l false k = sym (or-false (ltb 0 k))
 
 module _ (p : ℕ → Bool) (n : ℕ) (rep : ℕ → ℕ) (chosen : ℕ → Bool) (rows : ℕ → ℕ → Bool) where
   abbrev holds : ℕ → ℕ → Bool
@@ -79,30 +74,25 @@ module _ (p : ℕ → Bool) (n : ℕ) (rep : ℕ → ℕ) (chosen : ℕ → Bool
       more y ∙ ap (λ b. b || (p v && shows p n rep (rows v) y)) (s y)
       ∙ sym (any-skips (holds y) (suc v) next (to .from) (λ u a b. not-held y u (to .before u a b)) ∙ any-last (holds y) v ∙ ap (λ b. any (holds y) 0 v || b) (held y v c))
 
-  module _ (t : ℕ) where
-    -- the walk has come to record v, and the stamps tell the values below it
-    pub record Stamped (v : ℕ) (stamps : List ℕ) : Type 0 where
-      pub come : Come n chosen v
-      pub seen : Seen v (stamped t stamps)
+  -- the walk has come to record v, and the marks tell the values below it
+  pub record Told (v : ℕ) (marks : List ℕ) : Type 0 where
+    pub come : Come n chosen v
+    pub seen : Seen v (marked marks)
 
-    pub stamped-start : (start : ℕ) → Next chosen n 0 start → (stamps : List ℕ) → ((x : ℕ) → getD stamps x 0 < t) → Stamped start stamps
-    stamped-start start to stamps low =
-        record {
-          come = come-to n chosen 0 start to;
-          seen = seen-start start to (stamped t stamps) (λ y. ne-eqb (getD stamps y 0) t (λ q. omega (arith, low y)));
-        }
+  pub told-start : (start : ℕ) → Next chosen n 0 start → (marks : List ℕ) → ((x : ℕ) → marked marks x ≡ false) → Told start marks
+  told-start start to marks none = record { come = come-to n chosen 0 start to; seen = seen-start start to (marked marks) none }
 
-    pub stamped-step : (v : ℕ) (stamps : List ℕ) → Stamped v stamps → v < n → (stamps′ : List ℕ) → Marked p n rep (rows v) v t stamps stamps′
-        → (next : ℕ) → Next chosen n (suc v) next → Stamped next stamps′
-    stamped-step v stamps s h stamps′ met next to =
-        record { come = come-to n chosen (suc v) next to; seen = seen-step v (stamped t stamps) (s .seen) (s .come .is-chosen h) next to (stamped t stamps′) (met .seen) }
+  pub told-step : (v : ℕ) (marks : List ℕ) → Told v marks → v < n → (marks′ : List ℕ) → Marked p n rep (rows v) v marks marks′
+      → (next : ℕ) → Next chosen n (suc v) next → Told next marks′
+  told-step v marks s h marks′ met next to =
+      record { come = come-to n chosen (suc v) next to; seen = seen-step v (marked marks) (s .seen) (s .come .is-chosen h) next to (marked marks′) (met .seen) }
 
-    -- at the end, they tell the values of all rows
-    pub stamped-all : (v : ℕ) (stamps : List ℕ) → Stamped v stamps → n ≤ v → (y : ℕ) → stamped t stamps y ≡ any (holds y) 0 n
-    stamped-all v stamps s h y = let e : v ≡ n = omega (arith, s .come .most) in s .seen y ∙ ap (any (holds y) 0) e
+  -- at the end, they tell the values of all rows
+  pub told-all : (v : ℕ) (marks : List ℕ) → Told v marks → n ≤ v → (y : ℕ) → marked marks y ≡ any (holds y) 0 n
+  told-all v marks s h y = let e : v ≡ n = omega (arith, s .come .most) in s .seen y ∙ ap (any (holds y) 0) e
 
-  -- the first token of the window, the token of each record's class, and whether a value is asked for
-  module _ (base : ℕ) (class : ℕ → ℕ) (needy : Bool) where
+  -- the class of each record, counted from one, and whether a value is asked for
+  module _ (class : ℕ → ℕ) (needy : Bool) where
     abbrev bad : ℕ → Bool
     bad = rowShares p n rep chosen rows class needy
 
@@ -110,35 +100,36 @@ module _ (p : ℕ → Bool) (n : ℕ) (rep : ℕ → ℕ) (chosen : ℕ → Bool
     unfolding rowShares
     bad-chosen u e = rw e
 
-    abbrev Walked : ℕ → List ℕ → Type 0
-    Walked = Shared p n rep chosen rows base class needy
+    -- the walk has come to record v: no row below it offends, the holders tell the values there, and each is the class of all that hold it
+    pub record Shared (v : ℕ) (owners : List ℕ) : Type 0 where
+      pub come : Come n chosen v
+      pub clean : Clean n chosen bad v
+      pub seen : Seen v (taken owners)
+      pub own : (y u : ℕ) → u < v → holds y u ≡ true → getD owners y 0 ≡ class u
 
-    pub shared-start : (start : ℕ) → Next chosen n 0 start → (tokens : List ℕ) → ((x : ℕ) → getD tokens x 0 < base) → Walked start tokens
-    shared-start start to tokens low =
+    pub shared-start : (start : ℕ) → Next chosen n 0 start → (owners : List ℕ) → ((x : ℕ) → getD owners x 0 ≡ 0) → Shared start owners
+    shared-start start to owners none =
         record {
           come = come-to n chosen 0 start to;
           clean = clean-start n chosen bad bad-chosen start to;
-          seen = seen-start start to (taken base tokens) (λ y. lt-leb base (getD tokens y 0) (low y));
+          seen = seen-start start to (taken owners) (λ y. le-ltb 0 (getD owners y 0) (omega (arith, none y)));
           own = λ y u h i. absurd (clear i (not-held y u (to .before u (omega arith) h)));
         }
 
-    pub shared-still : (v : ℕ) (tokens tokens′ : List ℕ) → tokens′ ≡ tokens → Walked v tokens → Walked v tokens′
-    shared-still v tokens tokens′ e s = rw e s
+    pub shared-end : (v : ℕ) (owners : List ℕ) → Shared v owners → n ≤ v → Nothing ≡ first bad 0 n
+    shared-end v owners s h = found-none n chosen bad v h (s .clean)
 
-    pub shared-end : (v : ℕ) (tokens : List ℕ) → Walked v tokens → n ≤ v → Nothing ≡ first bad 0 n
-    shared-end v tokens s h = found-none n chosen bad v h (s .clean)
-
-    module _ (v : ℕ) (tokens : List ℕ) (s : Walked v tokens) where
-      -- a value with a token of another class is one that a rival holds
-      rival-seen : asks p n rep (rows v) (foreign base tokens (class v)) ≡ true → any (rival p n rep chosen rows class v) 0 v ≡ true
+    module _ (v : ℕ) (owners : List ℕ) (s : Shared v owners) where
+      -- a value with a holder of another class is one that a rival holds
+      rival-seen : asks p n rep (rows v) (foreign owners (class v)) ≡ true → any (rival p n rep chosen rows class v) 0 v ≡ true
       unfolding rival
       rival-seen e =
-          let o = one-asked p n rep (rows v) (foreign base tokens (class v)) e in
+          let o = one-asked p n rep (rows v) (foreign owners (class v)) e in
           let x = rep (o .at) in
-          let k = any-true (holds x) 0 v (sym (s .seen x) ∙ and-l (taken base tokens x) _ (o .passes)) in
+          let k = any-true (holds x) 0 v (sym (s .seen x) ∙ and-l (taken owners x) _ (o .passes)) in
           let u = k .0 in
           let h : u < v = omega (arith, k .1 .below) in
-          let other = and-r (taken base tokens x) (not (eqb (getD tokens x 0) (class v))) (o .passes) in
+          let other = and-r (taken owners x) (not (eqb (getD owners x 0) (class v))) (o .passes) in
           any-some (rival p n rep chosen rows class v) 0 v u
           (record {
             from = omega arith;
@@ -148,7 +139,7 @@ module _ (p : ℕ → Bool) (n : ℕ) (rep : ℕ → ℕ) (chosen : ℕ → Bool
                 (asks-one p n rep (rows v) (λ z. holds z u) (record { at = o .at; low = o .low; in-row = o .in-row; here = o .here; passes = k .1 .passes }));
           })
 
-      seen-rival : any (rival p n rep chosen rows class v) 0 v ≡ true → asks p n rep (rows v) (foreign base tokens (class v)) ≡ true
+      seen-rival : any (rival p n rep chosen rows class v) 0 v ≡ true → asks p n rep (rows v) (foreign owners (class v)) ≡ true
       unfolding rival
       seen-rival e =
           let k = any-true (rival p n rep chosen rows class v) 0 v e in
@@ -157,22 +148,22 @@ module _ (p : ℕ → Bool) (n : ℕ) (rep : ℕ → ℕ) (chosen : ℕ → Bool
           let other = and-l (not (eqb (class u) (class v))) (asks p n rep (rows v) (λ z. holds z u)) (k .1 .passes) in
           let o = one-asked p n rep (rows v) (λ z. holds z u) (and-r (not (eqb (class u) (class v))) _ (k .1 .passes)) in
           let x = rep (o .at) in
-          asks-one p n rep (rows v) (foreign base tokens (class v))
+          asks-one p n rep (rows v) (foreign owners (class v))
           (record {
             at = o .at;
             low = o .low;
             in-row = o .in-row;
             here = o .here;
             passes =
-                both (taken base tokens x) _ (s .seen x ∙ any-some (holds x) 0 v u (record { from = omega arith; below = omega arith; passes = o .passes }))
+                both (taken owners x) _ (s .seen x ∙ any-some (holds x) 0 v u (record { from = omega arith; below = omega arith; passes = o .passes }))
                 (rw (s .own x u h (o .passes)) other);
           })
 
-      rivals : asks p n rep (rows v) (foreign base tokens (class v)) ≡ any (rival p n rep chosen rows class v) 0 v
+      rivals : asks p n rep (rows v) (foreign owners (class v)) ≡ any (rival p n rep chosen rows class v) 0 v
       rivals = tests-same _ _ rival-seen seen-rival
 
       -- the row of v was looked at
-      module _ (h : v < n) (tokens′ : List ℕ) (answer : Bool) (met : Met p n rep (rows v) needy v base (class v) tokens tokens′ answer) where
+      module _ (h : v < n) (owners′ : List ℕ) (answer : Bool) (met : Met p n rep (rows v) needy v (class v) owners owners′ answer) where
         answer-is : bad v ≡ answer
         unfolding rowShares
         answer-is = rw (s .come .is-chosen h, sym rivals) (sym (met .answers))
@@ -195,7 +186,7 @@ module _ (p : ℕ → Bool) (n : ℕ) (rep : ℕ → ℕ) (chosen : ℕ → Bool
               (went (eqb (class u) (class v)))
 
           -- what the row of v holds is its own, and the rest is as before
-          own-next : (y u : ℕ) → u ≤ v → holds y u ≡ true → getD tokens′ y 0 ≡ class u
+          own-next : (y u : ℕ) → u ≤ v → holds y u ≡ true → getD owners′ y 0 ≡ class u
           own-next y u l i =
               met .left z y
               ∙ ⊎-elim
@@ -209,14 +200,14 @@ module _ (p : ℕ → Bool) (n : ℕ) (rep : ℕ → ℕ) (chosen : ℕ → Bool
               (went (p v && shows p n rep (rows v) y)))
               (eq-or-lt-of-le l)
 
-          pub shared-step : base ≤ class v → (next : ℕ) → Next chosen n (suc v) next → Walked next tokens′
+          pub shared-step : 0 < class v → (next : ℕ) → Next chosen n (suc v) next → Shared next owners′
           shared-step l next to =
               record {
                 come = come-to n chosen (suc v) next to;
                 clean = clean-step n chosen bad bad-chosen v (s .clean) (answer-is ∙ z) next to;
                 seen =
-                    seen-step v (taken base tokens) (s .seen) (s .come .is-chosen h) next to (taken base tokens′)
-                    (λ y. ap (leb base) (met .left z y) ∙ taken-by base (class v) l _ (getD tokens y 0));
+                    seen-step v (taken owners) (s .seen) (s .come .is-chosen h) next to (taken owners′)
+                    (λ y. ap (ltb 0) (met .left z y) ∙ taken-by (class v) l _ (getD owners y 0));
                 own =
                     λ y u k i.
                     ⊎-elim

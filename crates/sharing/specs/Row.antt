@@ -3,11 +3,10 @@ use mathlib.Core.Path.{_≡_}
 use mathlib.Core.Bool.{Bool, true, false, _&&_, _||_, not, cond}
 use mathlib.Core.List.{List}
 use Prim.Native.Nat.{ℕ, _≤_, _<_}
-use lib.Dec.{leb, ltb, eqb}
+use lib.Dec.{ltb, eqb}
 use lib.ListN.{length, getD, set}
 use Rattle.meaning.specs.Walk.{any}
-use Rattle.day.specs.Ready.{Stamps}
-use Rattle.day.specs.Row.{UpTo, stamped}
+use Rattle.marks.specs.Marks.{marked}
 
 -- the period of record i, begin to end, shares a day with the window from..to
 abbrev pub during : List ℕ → List ℕ → ℕ → ℕ → ℕ → Bool
@@ -17,19 +16,24 @@ during begins ends from to i = ltb (getD begins i 0) to && ltb from (getD ends i
 unfoldable pub someOf : ℕ → (ℕ → Bool) → (ℕ → Bool) → Bool
 someOf n row ask = any (λ f. row f && ask f) 0 n
 
--- x has a token of this window, whose tokens are `base` or more
-abbrev pub taken : ℕ → List ℕ → ℕ → Bool
-taken base tokens x = leb base (getD tokens x 0)
+-- x has a holder: its entry is the class of its holders, counted from one
+abbrev pub taken : List ℕ → ℕ → Bool
+taken owners x = ltb 0 (getD owners x 0)
 
--- a value is held by another: x has a token of this window, and it is not this one
-abbrev pub foreign : ℕ → List ℕ → ℕ → ℕ → Bool
-foreign base tokens mine x = taken base tokens x && not (eqb (getD tokens x 0) mine)
+-- a value is held by another: x has a holder, and not of this class
+abbrev pub foreign : List ℕ → ℕ → ℕ → Bool
+foreign owners mine x = taken owners x && not (eqb (getD owners x 0) mine)
 
--- what was done with one value: the answer is whether another holds it; where not, it has this token
-pub record Took (base mine x : ℕ) (tokens tokens′ : List ℕ) (answer : Bool) : Type 0 where
-  pub answers : answer ≡ foreign base tokens mine x
-  pub kept : answer ≡ true → tokens′ ≡ tokens
-  pub put : answer ≡ false → tokens′ ≡ set tokens x mine
+-- what was done with one value: the answer is whether another holds it; where not, it is held now
+pub record Took (mine x : ℕ) (owners owners′ : List ℕ) (answer : Bool) : Type 0 where
+  pub answers : answer ≡ foreign owners mine x
+  pub kept : answer ≡ true → owners′ ≡ owners
+  pub put : answer ≡ false → owners′ ≡ set owners x mine
+
+-- an entry for each of n records, none of which has a holder
+pub record Unowned (n : ℕ) (owners : List ℕ) : Type 0 where
+  pub room : n ≤ length owners
+  pub none : (x : ℕ) → getD owners x 0 ≡ 0
 
 -- a row of n records, those that p passes being present, each represented by a record
 module _ (p : ℕ → Bool) (n : ℕ) (rep : ℕ → ℕ) (row : ℕ → Bool) where
@@ -49,27 +53,19 @@ module _ (p : ℕ → Bool) (n : ℕ) (rep : ℕ → ℕ) (row : ℕ → Bool) w
   unfoldable pub Laid : ℕ → List ℕ → List ℕ → Type 0
   Laid x before after = (y : ℕ) → getD after y 0 ≡ cond (shows y) x (getD before y 0)
 
-  -- the row of record v left its values stamped
-  pub record Marked (v t : ℕ) (stamps stamps′ : List ℕ) : Type 0 where
-    pub seen : (y : ℕ) → stamped t stamps′ y ≡ (stamped t stamps y || (p v && shows y))
-    pub up-to : UpTo t stamps → UpTo t stamps′
+  -- the row of record v left its values marked
+  pub record Marked (v : ℕ) (marks marks′ : List ℕ) : Type 0 where
+    pub seen : (y : ℕ) → marked marks′ y ≡ (marked marks y || (p v && shows y))
 
   -- what a walk down the row did: the answer, and where that is no, what it left
-  pub record Claimed (needy : Bool) (base mine : ℕ) (tokens tokens′ : List ℕ) (answer : Bool) : Type 0 where
-    pub answers : answer ≡ (lacking needy || asks (foreign base tokens mine))
-    pub left : answer ≡ false → Laid mine tokens tokens′
-    pub below : (m : ℕ) → mine < m → Stamps n m tokens → Stamps n m tokens′
+  pub record Claimed (needy : Bool) (mine : ℕ) (owners owners′ : List ℕ) (answer : Bool) : Type 0 where
+    pub answers : answer ≡ (lacking needy || asks (foreign owners mine))
+    pub left : answer ≡ false → Laid mine owners owners′
 
-  -- what was done with the row of record v: the answer, and where that is no, the tokens
-  pub record Met (needy : Bool) (v base mine : ℕ) (tokens tokens′ : List ℕ) (answer : Bool) : Type 0 where
-    pub answers : answer ≡ (p v && (lacking needy || asks (foreign base tokens mine)))
-    pub left : answer ≡ false → (y : ℕ) → getD tokens′ y 0 ≡ cond (p v && shows y) mine (getD tokens y 0)
-    pub below : (m : ℕ) → mine < m → Stamps n m tokens → Stamps n m tokens′
-
-  -- what was done with record v in passing: it stands, present, and nothing was written; or its row, whatever is needed, was met and does not offend
-  pub record Passed (v base mine : ℕ) (tokens tokens′ : List ℕ) (answer : Bool) : Type 0 where
-    pub stands : answer ≡ true → (p v ≡ true) × (tokens′ ≡ tokens)
-    pub met : answer ≡ false → (needy : Bool) → Met needy v base mine tokens tokens′ false
+  -- what was done with the row of record v: the answer, and where that is no, the holders
+  pub record Met (needy : Bool) (v mine : ℕ) (owners owners′ : List ℕ) (answer : Bool) : Type 0 where
+    pub answers : answer ≡ (p v && (lacking needy || asks (foreign owners mine)))
+    pub left : answer ≡ false → (y : ℕ) → getD owners′ y 0 ≡ cond (p v && shows y) mine (getD owners y 0)
 
 -- n entries or more in each list, and representatives that are record numbers
 pub record Room (n : ℕ) (lower ends reps column : List ℕ) : Type 0 where

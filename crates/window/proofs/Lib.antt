@@ -1,4 +1,3 @@
 -- The laws that the proofs cite.
-pub mod Parting
 pub mod Spreading
-pub mod Laying
+pub mod Settling

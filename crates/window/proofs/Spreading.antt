@@ -6,18 +6,20 @@ use Prim.Native.Nat.{ℕ, _≤_}
 use native.Mathlib.Omega.{arith}
 use lib.Dec.{ltb}
 use lib.IntN.{ℤ}
-use lib.ListN.{getD}
+use lib.ListN.{length, getD}
 use Rattle.meaning.specs.declared.Rule.{Rule}
-use Rattle.meaning.specs.Document.{Doc}
+use Rattle.meaning.specs.Block.{limit}
+use Rattle.meaning.specs.Document.{Doc, isVersion}
 use Rattle.meaning.specs.Rules.{ruleFields}
-use Rattle.meaning.proofs.Selects.{version-here}
 use Rattle.meaning.proofs.Tables.{rule-row}
 use Rattle.columns.specs.Lent.{Values, Periods}
 use Rattle.prepare.specs.Holders.{Skips}
 use Rattle.prepare.specs.Keys.{Keys}
 use Rattle.prepare.specs.Rows.{Rows}
 use Rattle.groups.specs.Groups.{Groups, Gathered}
-use Rattle.steps.specs.Reaching.{Ready, Reaches}
+use Rattle.orders.specs.Order.{InOrder}
+use Rattle.steps.specs.Places.{Closing}
+use Rattle.steps.specs.Reaching.{Reaches}
 use Rattle.window.specs.Spread.{Spread}
 
 -- a rule that fits its table has a path of few steps
@@ -25,18 +27,23 @@ pub steps-few : (r : Rule) → ruleFields r ≡ true → r .steps ≤ 8
 steps-few r f = rule-row r .0 f .path .steps-most
 
 module _ {doc : Doc} {r : Rule} where
-  -- what the reaches of a datatype are worked out from
-  pub ready : {kinds vkinds : List ℕ} {values : List ℤ} {begins ends keys groups last lower : List ℕ} → Values doc kinds vkinds values → Periods doc begins ends
-      → Keys doc r keys → Groups doc groups → Gathered doc r groups last lower → Ready doc r vkinds values begins ends keys groups last lower
-  ready v w k g s =
+  -- what the reaches of a datatype are worked out from, along the order by end
+  pub closing : {kinds vkinds : List ℕ} {values : List ℤ} {begins ends keys groups closes : List ℕ} → Values doc kinds vkinds values → Periods doc begins ends
+      → Keys doc r keys → Groups doc groups → length closes ≤ limit → InOrder (isVersion doc) ends closes (length closes)
+      → Closing doc r vkinds values begins ends keys groups closes
+  closing {closes = closes} v w k g few o =
       record {
         vkind = v .vkind;
         value = v .value;
         periods = w;
         rows = k;
-        class-room = g .room;
-        class-low = λ u y. g .low u (version-here doc u y);
-        gathered = s;
+        classes = g;
+        few = few;
+        order = record {
+          stands = λ x e. (o .place x, o .all x e .0, o .all x e .1);
+          version = λ j h. o .once j h .0;
+          rising = λ i j h m. rw (← w .end .at (getD closes i 0), ← w .end .at (getD closes j 0)) (o .rising i j h m);
+        };
       }
 
   module _ {start : ℕ} {next last lower groups : List ℕ} where

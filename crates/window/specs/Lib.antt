@@ -1,3 +1,3 @@
 -- The definitions that the contracts cite.
-pub mod Laid
 pub mod Spread
+pub mod Settled

@@ -1,152 +1,103 @@
 // The lowest offender of one window, for a non-sequenced rule of any kind; and the lists that it is worked out from.
+use layout::Layout;
 use meaning::Found;
+use meaning::Rule;
+use places::Place;
+use prepare::Prepared;
 ghost use mathlib.Core.Path.{_≡_};
-ghost use mathlib.Core.Bool.{Bool};
-ghost use Prim.Native.Nat.{ℕ, _+_, _*_, _<_, _≤_};
-ghost use lib.ListN.{getD};
+ghost use mathlib.Core.Bool.{true, false};
+ghost use Prim.Native.Nat.{_≤_};
 ghost use Rattle.meaning.specs.declared.Rule.{Rule};
 ghost use Rattle.meaning.specs.Document.{Doc};
+ghost use Rattle.meaning.specs.Rules.{isSequenced, ruleFields};
 ghost use Rattle.meaning.specs.Window.{Window, offenderIn};
-ghost use Rattle.meaning.specs.Block.{limit};
-ghost use Rattle.day.specs.Ready.{Stamps};
-ghost use Rattle.window.specs.Laid.{Laid};
+ghost use Rattle.prepare.specs.declared.Prepared.{Prepared};
+ghost use Rattle.window.specs.Settled.{Settled};
 
 pub mod layout; // layout.rt: the lists of a rule
 
-// The lowest offender of the window that begins on day `from` and ends before day `to`, its number being t, for a rule that is no cardinality;
-// every stamp and every token is one of an earlier window before, and of this or an earlier one after. Cost: that of the one walk that the rule's kind asks for.
-fn uncounted_in(
-    kind: u8,
-    start: usize,
-    next: &[u16],
-    last: &[u16],
-    lower: &[u16],
-    held_start: usize,
-    held_next: &[u16],
-    held_last: &[u16],
-    held_lower: &[u16],
+// The lowest offender of a cardinality at a place, which is a window. Cost: that of the walk.
+fn counted_at(
+    laid: Layout,
     begin: &[u16],
     end: &[u16],
     rep: &[u16],
     group: &[u16],
-    from: u16,
-    to: u16,
-    t: u16,
-    stamp: &mut [u16],
-    seen: &mut [u32],
+    r: Rule,
+    here: Place,
 ) -> Found
-    requires { ⌜ (kind ≡ 4 → ⊥) × ((doc : Doc) × (q : Rule) × (r : Rule) × (distinct : Bool) × (low : ℕ) × (high : ℕ) × Laid doc q r start (now next) (now last) (now lower) «held_start» (now «held_next») (now «held_last») (now «held_lower») (now begin) (now end) (now rep) (now group) distinct low high × (kind ≡ r .kind) × Stamps (doc .size) t (now stamp) × Stamps (doc .size) (t * limit) (now seen)) ⌝ }
-    ensures answer { λ x. ⌜ ((doc : Doc) → (q r : Rule) → (w : Window) → (distinct : Bool) → (low high : ℕ) → Laid doc q r start (now (next .entry)) (now (last .entry)) (now (lower .entry)) «held_start» (now («held_next» .entry)) (now («held_last» .entry)) (now («held_lower» .entry)) (now (begin .entry)) (now (end .entry)) (now (rep .entry)) (now (group .entry)) distinct low high → kind ≡ r .kind → w .from ≡ from → w .to ≡ to → from ≤ 36524 → x ≡ offenderIn doc q r w) ⌝ }
-    ensures stamps { λ x. ⌜ ((i : ℕ) → getD (now (stamp .exit)) i 0 < t + 1) ⌝ }
-    ensures tokens { λ x. ⌜ ((i : ℕ) → getD (now (seen .exit)) i 0 < (t + 1) * limit) ⌝ }
+    requires { ⌜ (ruleFields r ≡ true) × (isSequenced r ≡ false) × (r .kind ≡ 4) × ((doc : Doc) × (q : Rule) × (held : Prepared) × Settled doc q r laid held (now begin) (now end) (now rep) (now group)) ⌝ }
+    ensures { λ x. ⌜ ((doc : Doc) → (q : Rule) → (held : Prepared) → (w : Window) → Settled doc q r laid held (now (begin .entry)) (now (end .entry)) (now (rep .entry)) (now (group .entry)) → w .from ≡ here .from → w .to ≡ here .to → x ≡ offenderIn doc q r w) ⌝ }
 {
-    if kind == 5 {
-        return steps::stepped_in(start, next, begin, end, last, from, to);
-    }
-    if kind == 3 {
-        return sharing::missing_in(
-            start,
-            next,
-            last,
-            lower,
-            held_start,
-            held_next,
-            held_last,
-            held_lower,
-            begin,
-            end,
-            rep,
-            from,
-            to,
-            t,
-            stamp,
-        );
-    }
-    sharing::shared_in(
-        start,
-        next,
-        last,
-        lower,
+    let bounds = day::terms::terms(r);
+    counting::counting_in(
+        laid.start,
+        &laid.next,
         begin,
         end,
         rep,
         group,
-        kind == 1,
-        from,
-        to,
-        t,
-        seen,
+        &laid.last,
+        &laid.lower,
+        r.distinct == 1,
+        bounds.low,
+        bounds.high,
+        here.from,
+        here.to,
     )
 }
 
-// The lowest offender of the window that begins on day `from` and ends before day `to`, the window's number being t; every stamp and every
-// token is one of an earlier window before, and of this or an earlier one after. Cost: that of the one walk that the rule's kind asks for.
-pub fn offender_in(
-    kind: u8,
-    start: usize,
-    next: &[u16],
-    last: &[u16],
-    lower: &[u16],
-    held_start: usize,
-    held_next: &[u16],
-    held_last: &[u16],
-    held_lower: &[u16],
+// The lowest offender of a non-sequenced rule, whose lists are laid out, at a place, which is a window; `held` is the rule that it refers to,
+// prepared, if it is a reference. Cost: that of the one walk that the rule's kind asks for.
+pub fn offender_at(
+    laid: Layout,
+    held: Prepared,
     begin: &[u16],
     end: &[u16],
     rep: &[u16],
     group: &[u16],
-    distinct: bool,
-    low: usize,
-    high: usize,
-    from: u16,
-    to: u16,
-    t: u16,
-    stamp: &mut [u16],
-    seen: &mut [u32],
+    r: Rule,
+    here: Place,
 ) -> Found
-    requires { ⌜ ((doc : Doc) × (q : Rule) × (r : Rule) × Laid doc q r start (now next) (now last) (now lower) «held_start» (now «held_next») (now «held_last») (now «held_lower») (now begin) (now end) (now rep) (now group) distinct low high × (kind ≡ r .kind) × Stamps (doc .size) t (now stamp) × Stamps (doc .size) (t * limit) (now seen)) ⌝ }
-    ensures answer { λ x. ⌜ ((doc : Doc) → (q r : Rule) → (w : Window) → Laid doc q r start (now (next .entry)) (now (last .entry)) (now (lower .entry)) «held_start» (now («held_next» .entry)) (now («held_last» .entry)) (now («held_lower» .entry)) (now (begin .entry)) (now (end .entry)) (now (rep .entry)) (now (group .entry)) distinct low high → kind ≡ r .kind → w .from ≡ from → w .to ≡ to → from ≤ 36524 → x ≡ offenderIn doc q r w) ⌝ }
-    ensures stamps { λ x. ⌜ ((i : ℕ) → getD (now (stamp .exit)) i 0 < t + 1) ⌝ }
-    ensures tokens { λ x. ⌜ ((i : ℕ) → getD (now (seen .exit)) i 0 < (t + 1) * limit) ⌝ }
+    requires { ⌜ (ruleFields r ≡ true) × (isSequenced r ≡ false) × (here .from ≤ 36524) × ((doc : Doc) × (q : Rule) × Settled doc q r laid held (now begin) (now end) (now rep) (now group)) ⌝ }
+    ensures { λ x. ⌜ ((doc : Doc) → (q : Rule) → (w : Window) → Settled doc q r laid held (now (begin .entry)) (now (end .entry)) (now (rep .entry)) (now (group .entry)) → w .from ≡ here .from → w .to ≡ here .to → x ≡ offenderIn doc q r w) ⌝ }
 {
-    if kind == 4 {
-        return counting::counting_in(
-            start,
-            next,
+    let from = here.from;
+    let to = here.to;
+    if r.kind == 4 {
+        return counted_at(laid, begin, end, rep, group, r, here);
+    }
+    if r.kind == 5 {
+        return steps::stepped_in(laid.start, &laid.next, begin, end, &laid.last, from, to);
+    }
+    if r.kind == 3 {
+        return sharing::missing_in(
+            laid.start,
+            &laid.next,
+            &laid.last,
+            &laid.lower,
+            held.start,
+            &held.next,
+            &held.last,
+            &held.lower,
             begin,
             end,
             rep,
-            group,
-            last,
-            lower,
-            distinct,
-            low,
-            high,
             from,
             to,
-            t,
-            stamp,
-            seen,
         );
     }
-    uncounted_in(
-        kind,
-        start,
-        next,
-        last,
-        lower,
-        held_start,
-        held_next,
-        held_last,
-        held_lower,
+    sharing::shared_in(
+        laid.start,
+        &laid.next,
+        &laid.last,
+        &laid.lower,
         begin,
         end,
         rep,
         group,
+        r.kind == 1,
         from,
         to,
-        t,
-        stamp,
-        seen,
     )
 }

@@ -1,6 +1,6 @@
 -- `counting::item::weigh` meets its contract: each way out is one law.
-use borrow.Author.Needs.{needs}
 use Rattle.counting.proofs.Weighing.{weighed-again, weighed-new}
+use borrow.Author.Needs.{needs}
 use Rattle.counting.proofs.item.weigh.Statement.{statement}
 use Rattle.counting.proofs.item.weigh.Tie as tie
 

@@ -1,4 +1,4 @@
--- `day::row::count_offends` meets its contract: the number settles it, or the only value does, which is looked up or stamped.
+-- `day::row::count_offends` meets its contract: the number settles it, or the only value does, which is looked up or marked.
 use native.Mathlib.Omega.{arith}
 use borrow.Author.Needs.{needs}
 use Rattle.meaning.proofs.Says.{says}
@@ -7,22 +7,16 @@ use Rattle.day.proofs.row.count_offends.Statement.{statement}
 use Rattle.day.proofs.row.count_offends.Tie as tie
 
 returns : tie.Need-returns
-returns c = λ p n rep row v here found. met-settled p n rep _ _ _ row v _ _ here _ _ found (c .if1 .taken)
+returns c = λ p n rep row v here found. met-settled p n rep _ _ _ row v _ here _ _ found (c .if1 .taken)
 
-mul-seen : tie.Need-mul-seen
-mul-seen c = omega (arith, c .before .pre ((simp says at (c .if1 .left)) .1), c .before .good)
-
-slice-read-seen : tie.Need-slice-read-seen
-slice-read-seen c = omega (arith, c .before .before .pre ((simp says at (c .before .if1 .left)) .1))
+slice-read-known : tie.Need-slice-read-known
+slice-read-known c = omega (arith, c .before .before .pre ((simp says at (c .before .if1 .left)) .1))
 
 returns-2 : tie.Need-returns-2
-returns-2 c = λ p n rep row v here found. met-referring p n rep _ _ _ row v _ _ here _ _ found (c .before .before .if1 .left) (c .if2 .taken)
+returns-2 c = λ p n rep row v here found. met-referring p n rep _ _ _ row v _ here _ _ found (c .before .before .if1 .left) (c .if2 .taken)
 
-mul-stamp : tie.Need-mul-stamp
-mul-stamp c = omega (arith, c .before .before .before .pre ((simp says at (c .before .before .if1 .left)) .1), c .before .before .before .good)
-
-slice-write-stamp : tie.Need-slice-write-stamp
-slice-write-stamp c = omega (arith, c .before .before .before .pre ((simp says at (c .before .before .if1 .left)) .1))
+slice-write-seen : tie.Need-slice-write-seen
+slice-write-seen c = omega (arith, c .before .before .before .pre ((simp says at (c .before .before .if1 .left)) .1))
 
 same-length : tie.Need-same-length
 same-length c = search needs
@@ -30,17 +24,8 @@ same-length c = search needs
 returns-3 : tie.Need-returns-3
 returns-3 c =
     let low = c .before .before .before .pre ((simp says at (c .before .before .if1 .left)) .1) in
-    λ p n rep row v here found. met-distinct p n rep _ _ _ row v _ _ here _ _ found (c .before .before .if1 .left) (c .if2 .left) low
+    λ p n rep row v here found. met-distinct p n rep _ _ _ row v _ here _ _ found (c .before .before .if1 .left) (c .if2 .left) low
 
 pub count-offends-spec : {M : Type 1} → statement M
 count-offends-spec =
-    tie.close
-    (tie.spec
-    returns
-    mul-seen
-    slice-read-seen
-    returns-2
-    mul-stamp
-    slice-write-stamp
-    same-length
-    returns-3)
+    tie.close (tie.spec returns slice-read-known returns-2 slice-write-seen same-length returns-3)

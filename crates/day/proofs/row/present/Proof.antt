@@ -3,22 +3,35 @@ use borrow.Author.Needs.{needs}
 use Rattle.day.proofs.row.present.Statement.{statement}
 use Rattle.day.proofs.row.present.Tie as tie
 
-mul-result : tie.Need-mul-result
-mul-result c = search needs
+mul-index : tie.Need-mul-index
+mul-index c = search needs
 
-shared-slice-read-result : tie.Need-shared-slice-read-result
-shared-slice-read-result c = search needs
+shared-slice-read-index : tie.Need-shared-slice-read-index
+shared-slice-read-index c = search needs
 
-mul-result-2 : tie.Need-mul-result-2
-mul-result-2 c = search needs
+index-requires : tie.Need-index-requires
+index-requires c κs = search needs
 
-shared-slice-read-result-2 : tie.Need-shared-slice-read-result-2
-shared-slice-read-result-2 c = search needs
+mul-index-2 : tie.Need-mul-index-2
+mul-index-2 c = search needs
+
+shared-slice-read-index-2 : tie.Need-shared-slice-read-index-2
+shared-slice-read-index-2 c = search needs
+
+index-requires-2 : tie.Need-index-requires-2
+index-requires-2 c κs = search needs
 
 returns : tie.Need-returns
-returns c = search needs
+returns c = rw (c .before .before .index .ensures, c .index2 .ensures)
 
 pub present-spec : {M : Type 1} → statement M
 present-spec =
     tie.close
-    (tie.spec mul-result shared-slice-read-result mul-result-2 shared-slice-read-result-2 returns)
+    (tie.spec
+    mul-index
+    shared-slice-read-index
+    index-requires
+    mul-index-2
+    shared-slice-read-index-2
+    index-requires-2
+    returns)

@@ -15,8 +15,16 @@ Inv-loop begin end lower rep d past count₀ last₀ at₀ count last at =
 abbrev μ-loop : tie.MeasureT-loop
 μ-loop begin end lower rep d past count₀ last₀ at₀ count last at = at
 
+-- from the last column back to the start
+abbrev entry : tie.After-shared-slice-known4 Inv-loop μ-loop → tie.Start Inv-loop μ-loop
+entry c = c .before .before .before .before
+
+-- from the call of `index` for the step down back to the call of `present`
+abbrev looked : tie.After-index2 Inv-loop μ-loop → tie.After-present Inv-loop μ-loop
+looked c = c .before .before .before
+
 loop-holds : tie.Need-loop-holds Inv-loop μ-loop
-loop-holds c = walked-start _ _ _ _ _ (c .before .before .before .before .pre .1) _
+loop-holds c = walked-start _ _ _ _ _ (entry c .pre .1) _
 
 sub-present : tie.Need-sub-present Inv-loop μ-loop
 sub-present c = search needs
@@ -53,16 +61,16 @@ index-requires-2 c κs = search needs
 
 loop-less : tie.Need-loop-less Inv-loop μ-loop
 loop-less c =
-    let a = c .before .before .before .before .before .before .before .before .before .before in
-    let s = c .before .before .before .before .before .loop in
-    walked-less _ _ _ _ _ (a .pre .1) _ _ _ (s .inv) (c .before .before .before .before .loop-test .taken) _ (c .index2 .ensures)
+    let turn = looked c .before in
+    walked-less _ _ _ _ _ (entry (turn .before .before) .pre .1) _ _ _ (turn .before .loop .inv) (turn .loop-test .taken) _ (c .index2 .ensures)
 
 loop-again : tie.Need-loop-again Inv-loop μ-loop
 loop-again c =
-    let a = c .before .before .before .before .before .before .before .before .before .before in
-    let s = c .before .before .before .before .before .loop in
-    let h = c .before .before .before .before .loop-test .taken in
-    let is = c .before .before .before .present .ensures in
+    let turn = looked c .before in
+    let a = entry (turn .before .before) in
+    let s = turn .before .loop in
+    let h = turn .loop-test .taken in
+    let is = looked c .present .ensures in
     ⊎-elim
     (λ w. walked-more _ _ _ _ _ (a .pre .1) _ _ _ (s .inv) h _ (c .index2 .ensures) (sym is ∙ w .0 .taken) _ _ (w .3) (w .4 ∙ w .2 .ensures))
     (λ w. walked-skip _ _ _ _ _ (a .pre .1) _ _ _ (s .inv) h _ (c .index2 .ensures) (sym is ∙ w .0 .left) _ _ (w .1) (w .2))

@@ -19,7 +19,8 @@ cast-t5 c = search needs
 
 returns : tie.Need-returns
 returns c =
-    let p = c .before .before .before .before .pre in
+    let told = c .before .before .before in
+    let p = told .before .pre in
     cardinality-terms _ (p .0) (p .1) (search (needs, signs)) (search (needs, signs))
 
 pub own-bounds-spec : {M : Type 1} → statement M

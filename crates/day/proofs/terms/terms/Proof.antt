@@ -20,7 +20,11 @@ returns-4 : tie.Need-returns-4
 returns-4 c = search needs
 
 returns-5 : tie.Need-returns-5
-returns-5 c = datatype-terms _ (c .before .before .before .before .before .before .before .before .pre) (c .before .before .before .before .before .before .if1 .left) (c .before .before .before .before .if2 .left) (c .before .before .if3 .left) (c .if4 .left)
+returns-5 c =
+    let third = c .before .before in
+    let second = third .before .before in
+    let first = second .before .before in
+    datatype-terms _ (first .before .before .pre) (first .if1 .left) (second .if2 .left) (third .if3 .left) (c .if4 .left)
 
 pub terms-spec : {M : Type 1} → statement M
 terms-spec =

@@ -1,11 +1,19 @@
 -- `sharing::row::row_misses` meets its contract: the version is not present, or its row was searched.
 use mathlib.Core.Path.{sym, _∙_}
-use borrow.Author.Needs.{needs}
 use borrow.Author.Tests.{not-true, not-false}
 use Rattle.day.proofs.Tallying.{chain-from}
 use Rattle.sharing.proofs.Meeting.{room-of, absent-test, present-test}
+use borrow.Author.Needs.{needs}
 use Rattle.sharing.proofs.row.row_misses.Statement.{statement}
 use Rattle.sharing.proofs.row.row_misses.Tie as tie
+
+-- from the call of `present` back to the start
+abbrev entry : tie.After-present → tie.Start
+entry c = c .before .before .before .before .before .before .before
+
+-- from the call of `index` back to where the version is present
+abbrev else1 : tie.After-index → tie.Else1
+else1 c = c .before .before
 
 present-requires : tie.Need-present-requires
 present-requires c κs = search needs
@@ -22,15 +30,16 @@ shared-slice-read-index c = search needs
 index-requires : tie.Need-index-requires
 index-requires c κs = search needs
 
-has-unstamped-requires : tie.Need-has-unstamped-requires
-has-unstamped-requires c κs =
-    let a = c .before .before .before .before .before .before .before .before .before .before in
-    (room-of _ _ _ _ _ _ (a .pre .0 .1) _ (a .pre .0 .1 .stamp-room), (a .pre .1 .0, chain-from _ _ _ _ _ (c .index .ensures) (a .pre .1 .1)))
+has-unmarked-requires : tie.Need-has-unmarked-requires
+has-unmarked-requires c κs =
+    let p = entry (else1 c .before) .pre in
+    (room-of _ _ _ _ _ _ (p .0 .1) _ (p .0 .1 .mark-room), (p .1 .0, chain-from _ _ _ _ _ (c .index .ensures) (p .1 .1)))
 
 returns-2 : tie.Need-returns-2
 returns-2 c =
-    let here = sym (c .before .before .before .before .present .ensures) ∙ not-false _ (c .before .before .before .if1 .left) in
-    λ row ch. present-test _ _ _ here (c .has-unstamped .ensures row (chain-from _ _ _ _ _ (c .before .index .ensures) ch))
+    let else = else1 (c .before) in
+    let here = sym (else .before .present .ensures) ∙ not-false _ (else .if1 .left) in
+    λ row ch. present-test _ _ _ here (c .has-unmarked .ensures row (chain-from _ _ _ _ _ (c .before .index .ensures) ch))
 
 pub row-misses-spec : {M : Type 1} → statement M
 row-misses-spec =
@@ -41,5 +50,5 @@ row-misses-spec =
     mul-index
     shared-slice-read-index
     index-requires
-    has-unstamped-requires
+    has-unmarked-requires
     returns-2)

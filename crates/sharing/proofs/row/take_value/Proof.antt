@@ -1,7 +1,7 @@
--- `sharing::row::take_value` meets its contract: another has the value, or it got the token.
+-- `sharing::row::take_value` meets its contract: another has the value, or it is held now.
 use mathlib.Core.Path.{refl}
-use borrow.Author.Needs.{needs}
 use Rattle.sharing.proofs.Claiming.{took-none, took-it}
+use borrow.Author.Needs.{needs}
 use Rattle.sharing.proofs.row.take_value.Statement.{statement}
 use Rattle.sharing.proofs.row.take_value.Tie as tie
 
@@ -21,19 +21,19 @@ slice-read-held : tie.Need-slice-read-held
 slice-read-held c = search needs
 
 returns : tie.Need-returns
-returns c = took-none _ _ _ (c .before .before .index .ensures) (c .if1 .taken)
+returns c = took-none _ _ (c .before .before .index .ensures) (c .if1 .taken)
 
-mul-seen : tie.Need-mul-seen
-mul-seen c = search needs
+mul-owner : tie.Need-mul-owner
+mul-owner c = search needs
 
-slice-write-seen : tie.Need-slice-write-seen
-slice-write-seen c = search needs
+slice-write-owner : tie.Need-slice-write-owner
+slice-write-owner c = search needs
 
 same-length : tie.Need-same-length
 same-length c = search needs
 
 returns-2 : tie.Need-returns-2
-returns-2 c = took-it _ _ _ (c .before .before .index .ensures) (c .if1 .left) refl
+returns-2 c = took-it _ _ (c .before .before .index .ensures) (c .if1 .left) refl
 
 pub take-value-spec : {M : Type 1} → statement M
 take-value-spec =
@@ -45,7 +45,7 @@ take-value-spec =
     mul-held
     slice-read-held
     returns
-    mul-seen
-    slice-write-seen
+    mul-owner
+    slice-write-owner
     same-length
     returns-2)

@@ -6,7 +6,8 @@ use Rattle.window.proofs.layout.keys_of.Tie as tie
 
 mark-selected-requires : tie.Need-mark-selected-requires
 mark-selected-requires c κs =
-    let p = c .before .before .before .before .pre in
+    let kinds = c .before .before .before in
+    let p = kinds .before .pre in
     (steps-few _ (p .0), (p .1 .0, p .1 .1, p .1 .3))
 
 holders-requires : tie.Need-holders-requires
