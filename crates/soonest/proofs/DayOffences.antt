@@ -18,8 +18,8 @@ use Rattle.meaning.proofs.Walks.{any-true, any-some, any-false, count-same}
 use Rattle.meaning.proofs.Selects.{selected-here}
 use Rattle.prepare.specs.Rows.{wantsBy, wants, inRow}
 use Rattle.groups.proofs.Gathering.{row-selected}
-use Rattle.soonest.proofs.Offences.{Lacks, Twice, Shared, Unheld, Some}
-use Rattle.soonest.proofs.Tallies.{some}
+use Rattle.soonest.proofs.Offences.{Lacks, Twice, Shared, Unmatched, Some}
+use Rattle.soonest.proofs.Tallies.{some, two}
 use Rattle.soonest.proofs.Held.{heldBy, held, row-here, held-one, held-lacks, held-some, held-twice, gives-held, values-held}
 use Rattle.soonest.proofs.Nested.{Nested}
 
@@ -114,40 +114,28 @@ module _ (doc : Doc) (p : ℕ → Bool) where
               (record { from = omega arith; below = omega (arith, row-here doc p q u g j); passes = both (gives doc p q u g) (sameValue doc f g) (gives-of q w′ u g j d) m }));
         }))
 
+    -- where all that is present in the row of u is g, that is one at most
+    one-held : (u g : ℕ) → ((h : ℕ) → inRow doc q u h ≡ true → p h ≡ true → h ≡ g) → held doc p q u ≤ 1
+    one-held u g only = ⊎-elim
+        (λ l. l)
+        (λ more.
+        let t = two (heldBy doc p q u) 0 (doc .size) more in
+        let is : (h : ℕ) → heldBy doc p q u h ≡ true → h ≡ g = λ h e. only h (and-l (inRow doc q u h) (p h) e) (and-r (inRow doc q u h) (p h) e) in
+        absurd (omega (arith, t .less, is (t .one) (t .one-passes .passes), is (t .other) (t .other-passes .passes))))
+        (le-or-lt (held doc p q u) 1)
+
     -- a present one whose value no row of q has as its only one
-    unheld : (v f : ℕ) → inRow doc r v f ≡ true → p f ≡ true → any (sharesOnly doc p r v q) 0 (doc .size) ≡ false → Twice doc p q ⊎ Unheld doc p r q
-    unheld v f i e n =
-        let equal : ℕ → ℕ → Bool = λ u g. heldBy doc p q u g && sameValue doc f g in
-        let holds : ℕ → Bool = λ u. any (equal u) 0 (doc .size) in
-        ⊎-elim
-        (λ y.
-        let some-row = any-true holds 0 (doc .size) y in
-        let u = some-row .0 in
-        let some-one = any-true (equal u) 0 (doc .size) (some-row .1 .passes) in
-        let g = some-one .0 in
-        let there = and-l (heldBy doc p q u g) (sameValue doc f g) (some-one .1 .passes) in
-        ⊎-elim
-        (λ (l : held doc p q u ≤ 1).
-        absurd (clear
-        (only-shared v f i e u g (and-l (inRow doc q u g) (p g) there) (and-r (inRow doc q u g) (p g) there) (and-r (heldBy doc p q u g) (sameValue doc f g) (some-one .1 .passes)) l)
-        (any-false (sharesOnly doc p r v q) 0 (doc .size) n u (some-row .1 .from) (some-row .1 .below))))
-        (λ (more : 1 < held doc p q u). inl (held-twice doc p q u more))
-        (le-or-lt (held doc p q u) 1))
-        (λ z.
-        inr
-        (record {
+    unmatched : (v f : ℕ) → inRow doc r v f ≡ true → p f ≡ true → any (sharesOnly doc p r v q) 0 (doc .size) ≡ false → Unmatched doc p r q
+    unmatched v f i e n =
+        record {
           v = v;
           f = f;
           in-row = i;
           here = e;
-          none =
-              λ u g j d m.
-              clear (both (heldBy doc p q u g) (sameValue doc f g) (both (inRow doc q u g) (p g) j d) m)
-              (any-false (equal u) 0 (doc .size)
-              (any-false holds 0 (doc .size) z u (omega arith) (omega (arith, selected-here doc q u (row-selected doc q u g j))))
-              g (omega arith) (omega (arith, row-here doc p q u g j)));
-        }))
-        (went (any holds 0 (doc .size)))
+          none = λ u g j d m only.
+              clear (only-shared v f i e u g j d m (one-held u g only))
+              (any-false (sharesOnly doc p r v q) 0 (doc .size) n u (omega arith) (omega (arith, selected-here doc q u (row-selected doc q u g j))));
+        }
 
   -- v offends the rule r, which refers to q
   module _ (q r : Rule) (v : ℕ) (offence : offends doc p q r v ≡ true) where
@@ -198,8 +186,8 @@ module _ (doc : Doc) (p : ℕ → Bool) where
           (λ t. inr (taken-shared r w v offender-chosen t))
           (or-cases (ltb 1 (values doc p r v)) (taken doc p r v) (broken 2 k))
 
-      -- two values, a referred row with two, or a value that no referred row has; where none has two, each has its value as the only one
-      pub reference-offence : r .kind ≡ 3 → ((f : ℕ) → wants doc q f ≡ valued doc f) → Nested doc p q → Twice doc p r ⊎ (Twice doc p q ⊎ Unheld doc p r q)
+      -- two values, or a value that no referred row has as its only one
+      pub reference-offence : r .kind ≡ 3 → ((f : ℕ) → wants doc q f ≡ valued doc f) → Nested doc p q → Twice doc p r ⊎ Unmatched doc p r q
       unfolding breaks byKind reference wantsBy
       reference-offence k w′ nested =
           let w : (f : ℕ) → wants doc r f ≡ valued doc f = wants-by 3 k in
@@ -211,7 +199,7 @@ module _ (doc : Doc) (p : ℕ → Bool) where
           let s = some (heldBy doc p r v) 0 (doc .size) (omega (arith, values-held doc p r w v offender-chosen)) in
           let f = s .0 in
           inr
-          (unheld q r w′ w nested v f (and-l (inRow doc r v f) (p f) (s .1 .passes)) (and-r (inRow doc r v f) (p f) (s .1 .passes))
+          (unmatched q r w′ w nested v f (and-l (inRow doc r v f) (p f) (s .1 .passes)) (and-r (inRow doc r v f) (p f) (s .1 .passes))
           (not-true (any (sharesOnly doc p r v q) 0 (doc .size)) (and-r (eqb (values doc p r v) 1) lone t))))
           (or-cases (ltb 1 (values doc p r v)) (eqb (values doc p r v) 1 && lone) (broken 3 k))
 

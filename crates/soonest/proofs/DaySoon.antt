@@ -22,12 +22,13 @@ use Rattle.passes.specs.Passes.{at, ByLeast}
 use Rattle.places.specs.declared.Places.{Places}
 use Rattle.places.specs.Placing.{windowAt}
 use Rattle.soonest.specs.Soon.{offendsAt, Soon}
-use Rattle.soonest.specs.Lined.{Lined}
+use Rattle.soonest.specs.Lined.{Lined, ChosenIn, RowsIn}
 use Rattle.crowds.specs.Crowds.{ByMany}
-use Rattle.soonest.specs.Parts.{ByTwice, ByShared, ByUnheld, ByFew}
+use Rattle.soonest.specs.Parts.{ByTwice, ByShared, ByFew}
+use Rattle.soonest.specs.Matched.{ByUnmatched}
 use Rattle.soonest.proofs.Nested.{meets-nested}
 use Rattle.soonest.proofs.DayOffences.{key-offence, unique-offence, reference-offence, cardinality-offence, datatype-offence}
-use Rattle.soonest.proofs.Sweeping.{row-is, some-soon, twice-soon, shared-soon, few-soon, many-soon, lacks-soon, unheld-soon}
+use Rattle.soonest.proofs.Sweeping.{row-is, some-soon, twice-soon, shared-soon, few-soon, many-soon, lacks-soon, unmatched-soon}
 
 -- where each offence is at D or later, D is soon enough
 pub soon-from : (doc : Doc) (q r : Rule) (places : Places) (D : ℕ)
@@ -35,8 +36,8 @@ pub soon-from : (doc : Doc) (q r : Rule) (places : Places) (D : ℕ)
 unfolding Soon
 soon-from doc q r places D late k v h l = never (offendsAt doc (meets doc (windowAt places k)) q r v) (λ e. omega (arith, late k v h e))
 
-module _ (doc : Doc) (q r : Rule) (places : Places) (order closes lo hi : List ℕ) (lined : Lined doc places order closes lo hi) (judgeable : Judgeable doc)
-    (sequenced : isSequenced r ≡ true) (rows : List ℕ) (keys : Keys doc r rows) (D : ℕ) where
+module _ (doc : Doc) (q r : Rule) (places : Places) (order lo hi : List ℕ) (lined : Lined doc places order lo hi) (judgeable : Judgeable doc)
+    (sequenced : isSequenced r ≡ true) (rows : List ℕ) (keys : Keys doc r rows) (read : RowsIn doc (lined .begun .member) r) (D : ℕ) where
   -- an offence as on a day
   on-day : ((k v : ℕ) → k < places .count → offends doc (meets doc (windowAt places k)) q r v ≡ true → D ≤ k) → Soon doc q r places D
   unfolding offendsAt
@@ -52,47 +53,45 @@ module _ (doc : Doc) (q r : Rule) (places : Places) (order closes lo hi : List �
       unique-days kind =
           on-day (λ k v h e.
           ⊎-elim
-          (twice-soon doc places order closes lo hi lined k h r rows keys D twice)
-          (shared-soon doc places order closes lo hi lined k h r rows keys reps represents (λ u. u) rows rows-tell D shared)
+          (twice-soon doc places order lo hi lined k h r rows keys read D twice)
+          (shared-soon doc places order lo hi lined k h r rows keys read reps represents (λ u. u) rows rows-tell D shared)
           (unique-offence doc (meets doc (windowAt places k)) q r v e sequenced kind))
 
-      pub key-days : (chosen own : List ℕ) → Marks (selected doc r) (doc .size) chosen → ((x : ℕ) → x < doc .size → at own x ≡ x)
+      pub key-days : (chosen own : List ℕ) → Marks (selected doc r) (doc .size) chosen → ChosenIn doc (lined .begun .member) r → ((x : ℕ) → x < doc .size → at own x ≡ x)
           → ByFew order chosen own rows lo hi (doc .size) 1 D → r .kind ≡ 1 → Soon doc q r places D
-      key-days chosen own marks numbers few kind =
+      key-days chosen own marks chosen-in numbers few kind =
           on-day (λ k v h e.
           ⊎-elim
-          (lacks-soon doc places order closes lo hi lined k h r rows keys chosen own marks numbers D few)
+          (lacks-soon doc places order lo hi lined k h r rows keys read chosen own marks chosen-in numbers D few)
           (⊎-elim
-          (twice-soon doc places order closes lo hi lined k h r rows keys D twice)
-          (shared-soon doc places order closes lo hi lined k h r rows keys reps represents (λ u. u) rows rows-tell D shared))
+          (twice-soon doc places order lo hi lined k h r rows keys read D twice)
+          (shared-soon doc places order lo hi lined k h r rows keys read reps represents (λ u. u) rows rows-tell D shared))
           (key-offence doc (meets doc (windowAt places k)) q r v e sequenced kind))
 
-    -- two values in a row, of this rule or of the one that it refers to, or a value that no row of that one has
-    pub reference-days : (others : List ℕ) → Keys doc q others → ((f : ℕ) → wants doc q f ≡ valued doc f) → ByTwice order rows lo hi (doc .size) D
-        → ByTwice order others lo hi (doc .size) D → ByUnheld order rows others reps lo hi (doc .size) D → r .kind ≡ 3 → Soon doc q r places D
-    reference-days others other-keys wanted twice held-twice unheld kind =
+    -- two values in a row, or a value that no row of the rule that it refers to has as its only one
+    pub reference-days : (others : List ℕ) → Keys doc q others → RowsIn doc (lined .begun .member) q → ((f : ℕ) → wants doc q f ≡ valued doc f) → ByTwice order rows lo hi (doc .size) D
+        → ByUnmatched order rows others reps lo hi (doc .size) D → r .kind ≡ 3 → Soon doc q r places D
+    reference-days others other-keys other-read wanted twice unmatched kind =
         on-day (λ k v h e.
         ⊎-elim
-        (twice-soon doc places order closes lo hi lined k h r rows keys D twice)
-        (⊎-elim
-        (twice-soon doc places order closes lo hi lined k h q others other-keys D held-twice)
-        (unheld-soon doc places order closes lo hi lined k h r q rows others reps keys other-keys represents D unheld))
+        (twice-soon doc places order lo hi lined k h r rows keys read D twice)
+        (unmatched-soon doc places order lo hi lined k h r q rows others reps keys other-keys represents read other-read D unmatched)
         (reference-offence doc (meets doc (windowAt places k)) q r v e sequenced kind wanted (meets-nested doc judgeable (windowAt places k) q)))
 
   -- too few or too many in a row
-  pub cardinality-days : (chosen own : List ℕ) → Marks (selected doc r) (doc .size) chosen → ((x : ℕ) → x < doc .size → at own x ≡ x) → (low high : ℕ)
+  pub cardinality-days : (chosen own : List ℕ) → Marks (selected doc r) (doc .size) chosen → ChosenIn doc (lined .begun .member) r → ((x : ℕ) → x < doc .size → at own x ≡ x) → (low high : ℕ)
       → pos low ≡ r .low → pos high ≡ r .high → ByFew order chosen own rows lo hi (doc .size) low D → ByMany rows lo hi (doc .size) high D → r .kind ≡ 4
       → Soon doc q r places D
-  cardinality-days chosen own marks numbers low high l m few many kind =
+  cardinality-days chosen own marks chosen-in numbers low high l m few many kind =
       on-day (λ k v h e.
       let s = cardinality-offence doc (meets doc (windowAt places k)) q r v e sequenced kind low high l m in
       ⊎-elim
-      (few-soon doc places order closes lo hi lined k h r rows keys chosen own marks numbers (s .v) (s .chosen) low D few (s .here))
-      (many-soon doc places order closes lo hi lined k h r rows keys chosen own marks numbers (s .v) (s .chosen) high D many)
+      (few-soon doc places order lo hi lined k h r rows keys read chosen own marks chosen-in numbers (s .v) (s .chosen) low D few (s .here))
+      (many-soon doc places order lo hi lined k h r rows keys read chosen own marks chosen-in numbers (s .v) (s .chosen) high D many)
       (s .outside))
 
   -- a wrong value
   pub datatype-days : ByLeast order rows lo hi (doc .size) D → 5 ≤ r .kind → Soon doc q r places D
   datatype-days least kind =
       on-day (λ k v h e.
-      some-soon doc places order closes lo hi lined k h r rows keys D least (datatype-offence doc (meets doc (windowAt places k)) q r v e sequenced kind))
+      some-soon doc places order lo hi lined k h r rows keys read D least (datatype-offence doc (meets doc (windowAt places k)) q r v e sequenced kind))

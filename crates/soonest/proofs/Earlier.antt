@@ -3,7 +3,8 @@ use mathlib.Core.List.{List}
 use Prim.Native.Nat.{ℕ, _≤_}
 use native.Mathlib.Omega.{arith}
 use Rattle.crowds.specs.Crowds.{ByMany}
-use Rattle.soonest.specs.Parts.{ByTwice, ByShared, ByUnheld, ByFew}
+use Rattle.soonest.specs.Parts.{ByTwice, ByShared, ByFew}
+use Rattle.soonest.specs.Matched.{ByUnmatched}
 
 module _ (order lo hi : List ℕ) (n : ℕ) {D E : ℕ} (h : E ≤ D) where
   pub twice-earlier : (rows : List ℕ) → ByTwice order rows lo hi n D → ByTwice order rows lo hi n E
@@ -14,9 +15,9 @@ module _ (order lo hi : List ℕ) (n : ℕ) {D E : ℕ} (h : E ≤ D) where
   unfolding ByShared
   shared-earlier rows reps owners b x y p ox oy lx ly same apart hx hy = omega (arith, b x y p ox oy lx ly same apart hx hy)
 
-  pub unheld-earlier : (rows others reps : List ℕ) → ByUnheld order rows others reps lo hi n D → ByUnheld order rows others reps lo hi n E
-  unfolding ByUnheld
-  unheld-earlier rows others reps b x p ox low hx none = omega (arith, b x p ox low hx none)
+  pub unmatched-earlier : (rows others reps : List ℕ) → ByUnmatched order rows others reps lo hi n D → ByUnmatched order rows others reps lo hi n E
+  unfolding ByUnmatched
+  unmatched-earlier rows others reps b x p ox low hx none = omega (arith, b x p ox low hx none)
 
   pub few-earlier : (marks classes keys : List ℕ) (low : ℕ) → ByFew order marks classes keys lo hi n low D → ByFew order marks classes keys lo hi n low E
   unfolding ByFew

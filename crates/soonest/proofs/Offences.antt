@@ -46,6 +46,14 @@ pub record Unheld (doc : Doc) (p : ℕ → Bool) (r q : Rule) : Type 0 where
   pub here : p f ≡ true
   pub none : (u g : ℕ) → inRow doc q u g ≡ true → p g ≡ true → sameValue doc f g ≡ true → ⊥
 
+-- a present one has a value that no present one which is alone in a row of the other rule has
+pub record Unmatched (doc : Doc) (p : ℕ → Bool) (r q : Rule) : Type 0 where
+  pub v : ℕ
+  pub f : ℕ
+  pub in-row : inRow doc r v f ≡ true
+  pub here : p f ≡ true
+  pub none : (u g : ℕ) → inRow doc q u g ≡ true → p g ≡ true → sameValue doc f g ≡ true → ((h : ℕ) → inRow doc q u h ≡ true → p h ≡ true → h ≡ g) → ⊥
+
 -- one of a row is present
 pub record Some (doc : Doc) (p : ℕ → Bool) (r : Rule) : Type 0 where
   pub v : ℕ

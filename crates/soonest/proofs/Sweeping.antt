@@ -5,16 +5,17 @@ use mathlib.Core.List.{List}
 use Prim.Native.Nat.{ℕ, _≤_, _<_}
 use native.Mathlib.Omega.{arith}
 use lib.Dec.{leb, ltb, eqb}
+use lib.ListN.{length}
 use borrow.Author.Tests.{eqb-true, eq-eqb}
 use Rattle.meaning.specs.declared.Rule.{Rule}
 use Rattle.meaning.specs.Block.{limit}
 use Rattle.meaning.specs.Walk.{count}
 use Rattle.meaning.specs.Document.{Doc, isVersion, numberOf}
 use Rattle.meaning.specs.Select.{selected, fieldOf}
-use Rattle.meaning.specs.Window.{Window, meets}
+use Rattle.meaning.specs.Window.{meets}
 use Rattle.meaning.proofs.Basics.{and-l, and-r, and-same}
 use Rattle.meaning.proofs.Walks.{count-same}
-use Rattle.meaning.proofs.Selects.{version-here, selected-version, selected-here, field-version}
+use Rattle.meaning.proofs.Selects.{version-here, selected-here, field-version}
 use Rattle.marks.specs.Marks.{Marks}
 use Rattle.values.specs.Represents.{Represents}
 use Rattle.prepare.specs.Rows.{wants, inRow}
@@ -23,13 +24,14 @@ use Rattle.passes.specs.Passes.{at, On, Present, ByLeast}
 use Rattle.places.specs.declared.Places.{Places}
 use Rattle.places.specs.Placing.{windowAt}
 use Rattle.places.proofs.Presence.{meets-there, there-meets, meets-as}
-use Rattle.soonest.specs.Lined.{Ground, Line, Lined}
+use Rattle.soonest.specs.Lined.{Ground, Line, Begun, Lined, ChosenIn, RowsIn}
 use Rattle.crowds.specs.Crowds.{keyedAt, present, ByMany, Ordered}
 use Rattle.soonest.specs.Parts.{ByTwice, ByShared, ByUnheld, ByFew}
+use Rattle.soonest.specs.Matched.{ByUnmatched}
 use Rattle.groups.specs.Groups.{Groups, inGroup}
 use Rattle.groups.specs.Classes.{classAt}
 use Rattle.groups.proofs.Gathering.{class-under, group-under}
-use Rattle.soonest.proofs.Offences.{Lacks, Twice, Shared, Unheld, Some}
+use Rattle.soonest.proofs.Offences.{Lacks, Twice, Shared, Unheld, Unmatched, Some}
 use Rattle.soonest.proofs.Tallies.{uncounted}
 
 -- what is in a row is a version, and so is the one whose row it is
@@ -57,77 +59,85 @@ module _ (doc : Doc) (r : Rule) where
     pub row-of : (v f : ℕ) → v < doc .size → f < doc .size → at rows f ≡ v → inRow doc r v f ≡ true
     row-of v f h l e = sym (keys .key v f h l) ∙ eq-eqb (at rows f) v e
 
--- only a version meets a window
-met-is : (doc : Doc) (w : Window) (x : ℕ) → meets doc w x ≡ true → isVersion doc x ≡ true
-unfolding meets
-met-is doc w x e =
-    let b = ltb (doc .begin x) (w .to) in
-    and-l (isVersion doc x) b (and-l (isVersion doc x && b) (ltb (w .from) (doc .end x)) e)
+-- a member stands in an order of them
+pub stands : {member : ℕ → Bool} (column order : List ℕ) → Line member column order → (x : ℕ) → member x ≡ true → On order x
+stands column order line x m = let a = line .all x m in record { place = line .place x; below = a .0; found = a .1 }
 
--- a version stands in an order of them
-pub stands : (doc : Doc) (column order : List ℕ) → Line doc column order → (x : ℕ) → isVersion doc x ≡ true → On order x
-stands doc column order line x is = let a = line .all x is in record { place = line .place x; below = a .0; found = a .1 }
-
--- and where only versions have a key, all that have one do
-pub ordered : (doc : Doc) (column order keys : List ℕ) → Line doc column order → ((x : ℕ) → x < doc .size → at keys x < doc .size → isVersion doc x ≡ true)
-    → Ordered order column keys (doc .size)
-ordered doc column order keys line versions =
+-- and where only members have a key, all that have one do
+pub ordered : (doc : Doc) {member : ℕ → Bool} (column order keys : List ℕ) → ((x : ℕ) → member x ≡ true → isVersion doc x ≡ true) → Line member column order
+    → ((x : ℕ) → x < doc .size → at keys x < doc .size → member x ≡ true) → Ordered order column keys (doc .size)
+ordered doc column order keys versions line keyed =
     record {
-      covered = λ j h. version-here doc (at order j) (line .version j h);
+      covered = λ j h. version-here doc (at order j) (versions (at order j) (line .inside j h));
       place = line .place;
-      all = λ y h l. line .all y (versions y h l);
+      all = λ y h l. line .all y (keyed y h l);
       once = line .once;
       rising = line .rising;
     }
 
-pub grounded : (doc : Doc) (places : Places) (opens closes lo hi : List ℕ) → Lined doc places opens closes lo hi → Ground opens lo hi (doc .size)
-grounded doc places opens closes lo hi lined =
+-- the ground of the passes, up to any places
+pub begun-ground : (doc : Doc) (places : Places) (opens lo hi : List ℕ) → Begun doc places opens lo → doc .size ≤ length hi → Ground opens lo hi (doc .size)
+begun-ground doc places opens lo hi begun room =
     record {
-      covered = λ j h. version-here doc (at opens j) (lined .by-begin .version j h);
-      rising = record { up = lined .by-begin .rising };
-      lo-room = lined .lo-room;
-      hi-room = lined .hi-room;
+      covered = λ j h. version-here doc (at opens j) (begun .versions (at opens j) (begun .by-begin .inside j h));
+      rising = record { up = begun .by-begin .rising };
+      lo-room = begun .room;
+      hi-room = room;
     }
 
+pub grounded : (doc : Doc) (places : Places) (opens lo hi : List ℕ) → Lined doc places opens lo hi → Ground opens lo hi (doc .size)
+grounded doc places opens lo hi lined = begun-ground doc places opens lo hi (lined .begun) (lined .hi-room)
+
 -- Place k of a document that is lined up.
-module _ (doc : Doc) (places : Places) (order closes lo hi : List ℕ) (lined : Lined doc places order closes lo hi) (k : ℕ) (inside : k < places .count) where
+module _ (doc : Doc) (places : Places) (order lo hi : List ℕ) (lined : Lined doc places order lo hi) (k : ℕ) (inside : k < places .count) where
   abbrev pub there : ℕ → Bool
   there = meets doc (windowAt places k)
 
-  -- a version that is present has the place among its own, and no other has
-  pub here : (x : ℕ) → there x ≡ true → Present lo hi x k
-  here x e =
-      let is = met-is doc (windowAt places k) x e in
-      let w = meets-there doc x is (lined .low x is) (lined .high x is) k inside e in
+  -- those that are lined up
+  abbrev pub member : ℕ → Bool
+  member = lined .begun .member
+
+  -- each is a version, and stands in the order
+  is-version : (x : ℕ) → member x ≡ true → isVersion doc x ≡ true
+  is-version = lined .begun .versions
+
+  pub on-order : (x : ℕ) → member x ≡ true → On order x
+  on-order = stands lo order (lined .begun .by-begin)
+
+  -- a record of the order is a member
+  on-member : (x : ℕ) → On order x → member x ≡ true
+  on-member x o = rw (o .found) at (lined .begun .by-begin .inside (o .place) (o .below))
+
+  -- a member that is present has the place among its own, and no other has
+  pub here : (x : ℕ) → member x ≡ true → there x ≡ true → Present lo hi x k
+  here x m e =
+      let w = meets-there doc x (is-version x m) (lined .begun .low x m) (lined .high x m) k inside e in
       record { from = w .0; to = w .1 }
 
-  pub back : (x : ℕ) → isVersion doc x ≡ true → Present lo hi x k → there x ≡ true
-  back x is p = there-meets doc x is (lined .low x is) (lined .high x is) k inside (p .from) (p .to)
-
-  -- a record of the order is a version
-  on-version : (x : ℕ) → On order x → isVersion doc x ≡ true
-  on-version x o = rw (o .found) at (lined .by-begin .version (o .place) (o .below))
+  pub back : (x : ℕ) → member x ≡ true → Present lo hi x k → there x ≡ true
+  back x m p = there-meets doc x (is-version x m) (lined .begun .low x m) (lined .high x m) k inside (p .from) (p .to)
 
   -- presence is a test on places
-  there-is : (x : ℕ) → isVersion doc x ≡ true → there x ≡ (leb (at lo x) k && ltb k (at hi x))
-  there-is x is = meets-as doc x is (lined .low x is) (lined .high x is) k inside
+  pub there-is : (x : ℕ) → member x ≡ true → there x ≡ (leb (at lo x) k && ltb k (at hi x))
+  there-is x m = meets-as doc x (is-version x m) (lined .begun .low x m) (lined .high x m) k inside
 
-  -- how many have a key and are present, where the key tells what is `member`
-  pub many-is : (keys : List ℕ) (key : ℕ) (member : ℕ → Bool) → ((x : ℕ) → x < doc .size → eqb (at keys x) key ≡ member x)
-      → ((x : ℕ) → member x ≡ true → isVersion doc x ≡ true) → count (λ x. member x && there x) 0 (doc .size) ≡ present keys lo hi (doc .size) key k
-  many-is keys key member same version =
-      count-same (λ x. member x && there x) (keyedAt keys lo hi key k) 0 (doc .size)
+  -- how many have a key and are present, where the key tells which `has`
+  pub many-is : (keys : List ℕ) (key : ℕ) (has : ℕ → Bool) → ((x : ℕ) → x < doc .size → eqb (at keys x) key ≡ has x)
+      → ((x : ℕ) → has x ≡ true → member x ≡ true) → count (λ x. has x && there x) 0 (doc .size) ≡ present keys lo hi (doc .size) key k
+  many-is keys key has same read =
+      count-same (λ x. has x && there x) (keyedAt keys lo hi key k) 0 (doc .size)
       (λ x a b.
       rw (same x (omega arith))
-      (and-same (member x) (there x) (leb (at lo x) k && ltb k (at hi x)) (λ t. there-is x (version x t))))
+      (and-same (has x) (there x) (leb (at lo x) k && ltb k (at hi x)) (λ t. there-is x (read x t))))
 
-  module _ (r : Rule) (rows : List ℕ) (keys : Keys doc r rows) where
+  module _ (r : Rule) (rows : List ℕ) (keys : Keys doc r rows) (read : RowsIn doc member r) where
     -- one of a row is present
     pub some-soon : (D : ℕ) → ByLeast order rows lo hi (doc .size) D → Some doc there r → D ≤ k
     unfolding ByLeast
     some-soon D b s =
         let row = row-is doc r rows keys (s .v) (s .f) (s .in-row) in
-        b (s .f) k (stands doc lo order (lined .by-begin) (s .f) (row-version doc r (s .v) (s .f) (s .in-row))) (omega (arith, row-held doc r (s .v) (s .f) (s .in-row))) (here (s .f) (s .here))
+        let m = read (s .v) (s .f) (s .in-row) in
+        b (s .f) k (on-order (s .f) m) (omega (arith, row-held doc r (s .v) (s .f) (s .in-row))) (here (s .f) m (s .here))
 
     -- two of a row are present
     pub twice-soon : (D : ℕ) → ByTwice order rows lo hi (doc .size) D → Twice doc there r → D ≤ k
@@ -135,14 +145,16 @@ module _ (doc : Doc) (places : Places) (order closes lo hi : List ℕ) (lined : 
     twice-soon D b s =
         let f = row-is doc r rows keys (s .v) (s .f) (s .first) in
         let g = row-is doc r rows keys (s .v) (s .g) (s .second) in
+        let mf = read (s .v) (s .f) (s .first) in
+        let mg = read (s .v) (s .g) (s .second) in
         b (s .f) (s .g) k
-        (stands doc lo order (lined .by-begin) (s .f) (row-version doc r (s .v) (s .f) (s .first)))
-        (stands doc lo order (lined .by-begin) (s .g) (row-version doc r (s .v) (s .g) (s .second)))
+        (on-order (s .f) mf)
+        (on-order (s .g) mg)
         (omega (arith, row-held doc r (s .v) (s .f) (s .first)))
         (omega arith)
         (s .apart)
-        (here (s .f) (s .first-here))
-        (here (s .g) (s .second-here))
+        (here (s .f) mf (s .first-here))
+        (here (s .g) mg (s .second-here))
 
     -- two present ones of rows of different owners have one value
     pub shared-soon : (reps : List ℕ) → Represents doc reps → (owner : ℕ → ℕ) (owners : List ℕ)
@@ -150,39 +162,39 @@ module _ (doc : Doc) (places : Places) (order closes lo hi : List ℕ) (lined : 
         → (D : ℕ) → ByShared order rows reps owners lo hi (doc .size) D → Shared doc there r owner → D ≤ k
     unfolding ByShared
     shared-soon reps represents owner owners tells D b s =
-        let vf = row-version doc r (s .u) (s .f) (s .first) in
-        let vg = row-version doc r (s .v) (s .g) (s .second) in
+        let mf = read (s .u) (s .f) (s .first) in
+        let mg = read (s .v) (s .g) (s .second) in
         let f = row-is doc r rows keys (s .u) (s .f) (s .first) in
         let g = row-is doc r rows keys (s .v) (s .g) (s .second) in
-        b (s .f) (s .g) k (stands doc lo order (lined .by-begin) (s .f) vf) (stands doc lo order (lined .by-begin) (s .g) vg)
+        b (s .f) (s .g) k (on-order (s .f) mf) (on-order (s .g) mg)
         (omega (arith, row-held doc r (s .u) (s .f) (s .first)))
         (omega (arith, row-held doc r (s .v) (s .g) (s .second)))
-        (eqb-true (at reps (s .f)) (at reps (s .g)) (sym (represents .same (s .f) (s .g) vf vg) ∙ s .same))
+        (eqb-true (at reps (s .f)) (at reps (s .g)) (sym (represents .same (s .f) (s .g) (is-version (s .f) mf) (is-version (s .g) mg)) ∙ s .same))
         (λ e. s .apart (tells (s .u) (s .v) (s .f) (s .g) (s .first) (s .second) e))
-        (here (s .f) (s .first-here))
-        (here (s .g) (s .second-here))
+        (here (s .f) mf (s .first-here))
+        (here (s .g) mg (s .second-here))
 
     -- too few or too many are present in the row of a selected version; `own` has each record's own number
-    module _ (chosen own : List ℕ) (marks : Marks (selected doc r) (doc .size) chosen) (numbers : (x : ℕ) → x < doc .size → at own x ≡ x) (v : ℕ) (y : selected doc r v ≡ true) where
+    module _ (chosen own : List ℕ) (marks : Marks (selected doc r) (doc .size) chosen) (chosen-in : ChosenIn doc member r) (numbers : (x : ℕ) → x < doc .size → at own x ≡ x) (v : ℕ) (y : selected doc r v ≡ true) where
       row-many : count (λ f. inRow doc r v f && there f) 0 (doc .size) ≡ present rows lo hi (doc .size) v k
-      row-many = many-is rows v (inRow doc r v) (λ f h. keys .key v f (selected-here doc r v y) h) (λ f e. row-version doc r v f e)
+      row-many = many-is rows v (inRow doc r v) (λ f h. keys .key v f (selected-here doc r v y) h) (λ f e. read v f e)
 
       pub few-soon : (low D : ℕ) → ByFew order chosen own rows lo hi (doc .size) low D → there v ≡ true → count (λ f. inRow doc r v f && there f) 0 (doc .size) < low → D ≤ k
       unfolding ByFew
       few-soon low D b p few =
           let in-doc = selected-here doc r v y in
           let e : present rows lo hi (doc .size) (at own v) k ≡ present rows lo hi (doc .size) v k = ap (λ (x : ℕ). present rows lo hi (doc .size) x k) (numbers v in-doc) in
-          b v k (stands doc lo order (lined .by-begin) v (selected-version doc r v y)) (marks .mark v in-doc ∙ y) (here v p) (omega (arith, row-many, e))
+          b v k (on-order v (chosen-in v y)) (marks .mark v in-doc ∙ y) (here v (chosen-in v y) p) (omega (arith, row-many, e))
 
       pub many-soon : (high D : ℕ) → ByMany rows lo hi (doc .size) high D → high < count (λ f. inRow doc r v f && there f) 0 (doc .size) → D ≤ k
       unfolding ByMany
       many-soon high D b many = b v k (selected-here doc r v y) (omega (arith, row-many))
 
     -- nothing of the row of a selected version that is present is
-    pub lacks-soon : (chosen own : List ℕ) → Marks (selected doc r) (doc .size) chosen → ((x : ℕ) → x < doc .size → at own x ≡ x)
+    pub lacks-soon : (chosen own : List ℕ) → Marks (selected doc r) (doc .size) chosen → ChosenIn doc member r → ((x : ℕ) → x < doc .size → at own x ≡ x)
         → (D : ℕ) → ByFew order chosen own rows lo hi (doc .size) 1 D → Lacks doc there r → D ≤ k
-    lacks-soon chosen own marks numbers D b s =
-        few-soon chosen own marks numbers (s .v) (s .chosen) 1 D b (s .here)
+    lacks-soon chosen own marks chosen-in numbers D b s =
+        few-soon chosen own marks chosen-in numbers (s .v) (s .chosen) 1 D b (s .here)
         (uncounted (λ f. inRow doc r (s .v) f && there f) 0 (doc .size)
         (λ f e. s .none f (and-l (inRow doc r (s .v) f) (there f) e) (and-r (inRow doc r (s .v) f) (there f) e)))
 
@@ -192,27 +204,44 @@ module _ (doc : Doc) (places : Places) (order closes lo hi : List ℕ) (lined : 
       number-many : count (λ f. inGroup doc r (numberOf doc v) f && there f) 0 (doc .size) ≡ present nums lo hi (doc .size) (at groups v) k
       number-many =
           many-is nums (at groups v) (inGroup doc r (numberOf doc v)) (λ f h. class-under doc r (doc .size) rows groups refl few keys classes v y f h (at nums f) (each f h))
-          (λ f e. let u = group-under doc r (numberOf doc v) f e in row-version doc r (u .of) f (u .row))
+          (λ f e. let u = group-under doc r (numberOf doc v) f e in read (u .of) f (u .row))
 
-      pub few-numbered : (chosen : List ℕ) → Marks (selected doc r) (doc .size) chosen → (low D : ℕ) → ByFew order chosen groups nums lo hi (doc .size) low D
+      pub few-numbered : (chosen : List ℕ) → Marks (selected doc r) (doc .size) chosen → ChosenIn doc member r → (low D : ℕ) → ByFew order chosen groups nums lo hi (doc .size) low D
           → there v ≡ true → count (λ f. inGroup doc r (numberOf doc v) f && there f) 0 (doc .size) < low → D ≤ k
       unfolding ByFew
-      few-numbered chosen marks low D b p less =
-          b v k (stands doc lo order (lined .by-begin) v (selected-version doc r v y)) (marks .mark v (selected-here doc r v y) ∙ y) (here v p) (omega (arith, number-many))
+      few-numbered chosen marks chosen-in low D b p less =
+          b v k (on-order v (chosen-in v y)) (marks .mark v (selected-here doc r v y) ∙ y) (here v (chosen-in v y) p) (omega (arith, number-many))
 
       pub many-numbered : (high D : ℕ) → ByMany nums lo hi (doc .size) high D → high < count (λ f. inGroup doc r (numberOf doc v) f && there f) 0 (doc .size) → D ≤ k
       unfolding ByMany
       many-numbered high D b many = b (at groups v) k (classes .low v (selected-here doc r v y)) (omega (arith, number-many))
 
   -- a present one has a value that no present one in a row of the other rule has
-  module _ (r q : Rule) (rows others reps : List ℕ) (keys : Keys doc r rows) (other-keys : Keys doc q others) (represents : Represents doc reps) where
+  module _ (r q : Rule) (rows others reps : List ℕ) (keys : Keys doc r rows) (other-keys : Keys doc q others) (represents : Represents doc reps) (read : RowsIn doc member r) where
     pub unheld-soon : (D : ℕ) → ByUnheld order rows others reps lo hi (doc .size) D → Unheld doc there r q → D ≤ k
     unfolding ByUnheld
     unheld-soon D b s =
-        let vf = row-version doc r (s .v) (s .f) (s .in-row) in
+        let m = read (s .v) (s .f) (s .in-row) in
         let row = row-is doc r rows keys (s .v) (s .f) (s .in-row) in
-        b (s .f) k (stands doc lo order (lined .by-begin) (s .f) vf) (omega (arith, row-held doc r (s .v) (s .f) (s .in-row))) (here (s .f) (s .here))
-        (λ y o m e p.
-        let is = on-version y o in
-        s .none (at others y) y (row-of doc q others other-keys (at others y) y m (version-here doc y is) refl) (back y is p)
-        (represents .same (s .f) y vf is ∙ eq-eqb (at reps (s .f)) (at reps y) (sym e)))
+        b (s .f) k (on-order (s .f) m) (omega (arith, row-held doc r (s .v) (s .f) (s .in-row))) (here (s .f) m (s .here))
+        (λ y o low e p.
+        let its = on-member y o in
+        let is = is-version y its in
+        s .none (at others y) y (row-of doc q others other-keys (at others y) y low (version-here doc y is) refl) (back y its p)
+        (represents .same (s .f) y (is-version (s .f) m) is ∙ eq-eqb (at reps (s .f)) (at reps y) (sym e)))
+
+    -- a present one has a value that no present one which is alone in a row of the other rule has
+    pub unmatched-soon : RowsIn doc (lined .begun .member) q → (D : ℕ) → ByUnmatched order rows others reps lo hi (doc .size) D → Unmatched doc there r q → D ≤ k
+    unfolding ByUnmatched
+    unmatched-soon other-read D b s =
+        let m = read (s .v) (s .f) (s .in-row) in
+        let row = row-is doc r rows keys (s .v) (s .f) (s .in-row) in
+        b (s .f) k (on-order (s .f) m) (omega (arith, row-held doc r (s .v) (s .f) (s .in-row))) (here (s .f) m (s .here))
+        (λ y low e a.
+        let its = on-member y (a .on) in
+        let is = is-version y its in
+        s .none (at others y) y (row-of doc q others other-keys (at others y) y low (version-here doc y is) refl) (back y its (a .here))
+        (represents .same (s .f) y (is-version (s .f) m) is ∙ eq-eqb (at reps (s .f)) (at reps y) (sym e))
+        (λ h j d.
+        let o = other-read (at others y) h j in
+        a .only h (on-order h o) (row-is doc q others other-keys (at others y) h j) (here h o d)))

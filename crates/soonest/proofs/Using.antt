@@ -146,15 +146,7 @@ none-by keys lo hi n high D few k p low many =
     absurd
     (omega (arith, few k low, count-less (keyedAt keys lo hi k p) (λ x. eqb (at keys x) k) (λ x t. and-l (eqb (at keys x) k) (leb (at lo x) p && ltb p (at hi x)) t) 0 n))
 
--- fewer than none are nowhere, and the first place is no later than any
+-- fewer than none are nowhere
 pub few-none : (order marks classes keys lo hi : List ℕ) (n D : ℕ) → ByFew order marks classes keys lo hi n 0 D
 unfolding ByFew
 few-none order marks classes keys lo hi n D x p ox mark hx few = absurd (omega arith)
-
-pub few-first : (order marks classes keys lo hi : List ℕ) (n low : ℕ) → ByFew order marks classes keys lo hi n low 0
-unfolding ByFew
-few-first order marks classes keys lo hi n low x p ox mark hx few = omega arith
-
-pub many-first : (keys lo hi : List ℕ) (n high : ℕ) → ByMany keys lo hi n high 0
-unfolding ByMany
-many-first keys lo hi n high k p low many = omega arith

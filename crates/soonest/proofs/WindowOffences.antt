@@ -17,7 +17,7 @@ use Rattle.meaning.specs.Document.{Doc, numberOf}
 use Rattle.meaning.specs.Rules.{byKind, isSequenced}
 use Rattle.meaning.specs.Select.{selected, valued, sameValue, within, present, gives, has}
 use Rattle.meaning.specs.Window.{Window, meets, valueless, shares, sharedIn, keyIn, referenceIn, under, counts, cardinalityIn, breaksIn, offendsIn}
-use Rattle.meaning.proofs.Basics.{went, clear, and-l, and-r, both, and-else, or-cases}
+use Rattle.meaning.proofs.Basics.{went, le-or-lt, clear, and-l, and-r, both, and-else, or-cases}
 use Rattle.meaning.proofs.Walks.{Passes, Lowest, any-some, any-true, any-none, first-found, first-nothing}
 use Rattle.meaning.proofs.Says.{says}
 use Rattle.meaning.proofs.Selects.{version-here, selected-here}
@@ -210,18 +210,6 @@ module _ (f : ℕ → Bool) where
       further : (i n k : ℕ) → Passes f (suc i) n k → Passes f i (suc n) k
       further i n k s = record { from = omega (arith, s .from); below = omega (arith, s .below); passes = s .passes }
 
-  -- what passes is counted
-  pub some-counted : (i n k : ℕ) → Passes f i n k → 0 < count f i n
-  unfolding count
-  some-counted i zero k s = absurd (omega (arith, s .from, s .below))
-  some-counted i (suc n) k s =
-      ⊎-elim
-      (λ y. rw y (omega arith))
-      (λ z.
-      let l : i ≡ k → ⊥ = λ e. clear (ap f e ∙ s .passes) z in
-      rw z (some-counted (suc i) n k (record { from = omega (arith, s .from); below = omega (arith, s .below); passes = s .passes })))
-      (went (f i))
-
   -- of those that pass, one is the lowest
   pub lowest-of : (i n k : ℕ) → Passes f i n k → (j : ℕ) × Lowest f i n j
   lowest-of i n k s = go (first f i n) refl
@@ -229,13 +217,6 @@ module _ (f : ℕ → Bool) where
       go : (x : Found) → first f i n ≡ x → (j : ℕ) × Lowest f i n j
       go (At j) e = (j, first-found f i n j e)
       go Nothing e = absurd (clear (s .passes) (first-nothing f i n e k (s .from) (s .below)))
-
--- v is selected and present, and nothing under its item number is
-pub record LacksAll (doc : Doc) (p : ℕ → Bool) (r : Rule) : Type 0 where
-  pub v : ℕ
-  pub chosen : selected doc r v ≡ true
-  pub here : p v ≡ true
-  pub none : (f : ℕ) → inGroup doc r (numberOf doc v) f ≡ true → p f ≡ true → ⊥
 
 -- v is selected and present, and so is one under its item number
 pub record SomeAll (doc : Doc) (p : ℕ → Bool) (r : Rule) : Type 0 where
@@ -266,6 +247,13 @@ pub record Fewer (doc : Doc) (p : ℕ → Bool) (r : Rule) (low : ℕ) : Type 0 
   pub here : p v ≡ true
   pub fewer : count (counts doc p r (numberOf doc v)) 0 (doc .size) < low
 
+-- v is selected and present, and under its item number more than `high` are counted
+pub record Beyond (doc : Doc) (p : ℕ → Bool) (r : Rule) (high : ℕ) : Type 0 where
+  pub v : ℕ
+  pub chosen : selected doc r v ≡ true
+  pub here : p v ≡ true
+  pub beyond : high < count (counts doc p r (numberOf doc v)) 0 (doc .size)
+
 -- v is selected and present, and under its item number more than `high` are present
 pub record More (doc : Doc) (p : ℕ → Bool) (r : Rule) (high : ℕ) : Type 0 where
   pub v : ℕ
@@ -282,7 +270,7 @@ outside-cases r low high c l h e =
 
 module _ (doc : Doc) (p : ℕ → Bool) (r : Rule) (flat : isSequenced r ≡ false) (n : ℕ) where
   -- what is under an item number is a present one of its group
-  under-present : (f : ℕ) → under doc p r n f ≡ true → inGroup doc r n f && p f ≡ true
+  pub under-present : (f : ℕ) → under doc p r n f ≡ true → inGroup doc r n f && p f ≡ true
   unfolding under
   under-present f e =
       let w = any-true _ 0 (doc .size) e in
@@ -292,7 +280,7 @@ module _ (doc : Doc) (p : ℕ → Bool) (r : Rule) (flat : isSequenced r ≡ fal
       both (inGroup doc r n f) (p f) (under-group doc r n f (record { of = v; row = own .0; number = t .1 })) (own .1)
 
   -- and the other way round, where a present one's version is present
-  present-under : ((v f : ℕ) → inRow doc r v f ≡ true → p f ≡ true → p v ≡ true) → (f : ℕ) → inGroup doc r n f ≡ true → p f ≡ true → under doc p r n f ≡ true
+  pub present-under : ((v f : ℕ) → inRow doc r v f ≡ true → p f ≡ true → p v ≡ true) → (f : ℕ) → inGroup doc r n f ≡ true → p f ≡ true → under doc p r n f ≡ true
   unfolding under present
   present-under held f i h =
       let u = group-under doc r n f i in
@@ -310,54 +298,52 @@ module _ (doc : Doc) (p : ℕ → Bool) (r : Rule) (flat : isSequenced r ≡ fal
   unfolding counts
   counts-present f e = under-present f (and-l (under doc p r n f) _ e)
 
-  -- the lowest one under an item number is counted, be it by values or not
-  lowest-counts : (j : ℕ) → Lowest (under doc p r n) 0 (doc .size) j → counts doc p r n j ≡ true
+  -- where not values are counted, whatever is under an item number is
+  every-counts : eqb (r .distinct) 1 ≡ false → (f : ℕ) → under doc p r n f ≡ true → counts doc p r n f ≡ true
   unfolding counts
-  lowest-counts j l =
-      let none : any (λ g. sameValue doc j g && under doc p r n g) 0 j ≡ false =
-      any-none _ 0 j (λ g a b. rw (l .before g a (omega arith)) (and-false (sameValue doc j g))) in
-      rw (l .passes, none) (ap not (and-false (eqb (r .distinct) 1)))
-
-  -- so where something under it is present, one or more are counted
-  present-counted : ((v f : ℕ) → inRow doc r v f ≡ true → p f ≡ true → p v ≡ true) → (f : ℕ) → inGroup doc r n f ≡ true → p f ≡ true
-      → 0 < count (counts doc p r n) 0 (doc .size)
-  present-counted held f i h =
-      let u = group-under doc r n f i in
-      let low = lowest-of (under doc p r n) 0 (doc .size) f
-      (record { from = omega arith; below = omega (arith, row-below doc r (u .of) f (u .row)); passes = present-under held f i h }) in
-      let l = low .1 in
-      some-counted (counts doc p r n) 0 (doc .size) (low .0) (record { from = l .from; below = l .below; passes = lowest-counts (low .0) l })
+  every-counts every f e = rw (every, e) refl
 
 -- An offender of a cardinality, be it of values or of field versions.
 module _ (doc : Doc) (p : ℕ → Bool) (q r : Rule) (flat : isSequenced r ≡ false) (low high : ℕ) where
-  -- too few are counted under its item number, or too many are present
-  pub cardinality-offence : pos low ≡ r .low → pos high ≡ r .high → r .kind ≡ 4 → (v : ℕ) → offendsIn doc p q r v ≡ true → Fewer doc p r low ⊎ More doc p r high
+  -- too few are counted under its item number, or too many
+  pub counted-offence : pos low ≡ r .low → pos high ≡ r .high → r .kind ≡ 4 → (v : ℕ) → offendsIn doc p q r v ≡ true → Fewer doc p r low ⊎ Beyond doc p r high
   unfolding byKind breaksIn cardinalityIn
-  cardinality-offence l h k v bad =
+  counted-offence l h k v bad =
       let b = broken doc p q r flat v bad 4 k in
       let here = present-chosen doc p r v (and-l (present doc p r v) _ b) in
-      let n = numberOf doc v in
       ⊎-elim
       (λ c. inl (record { v = v; chosen = here .0; here = here .1; fewer = c }))
-      (λ c.
-      inr
-      (record {
-        v = v;
-        chosen = here .0;
-        here = here .1;
-        more = omega (arith, c, count-within (counts doc p r n) (λ f. inGroup doc r n f && p f) (counts-present doc p r flat n) 0 (doc .size));
-      }))
+      (λ c. inr (record { v = v; chosen = here .0; here = here .1; beyond = c }))
       (outside-cases r low high _ l h (and-r (present doc p r v) _ b))
 
-  -- fewer than one are none
-  pub fewer-lacks : ((v f : ℕ) → inRow doc r v f ≡ true → p f ≡ true → p v ≡ true) → low ≤ 1 → Fewer doc p r low → LacksAll doc p r
-  fewer-lacks held l s =
-      record {
+  -- those counted are present
+  pub cardinality-offence : pos low ≡ r .low → pos high ≡ r .high → r .kind ≡ 4 → (v : ℕ) → offendsIn doc p q r v ≡ true → Fewer doc p r low ⊎ More doc p r high
+  cardinality-offence l h k v bad =
+      ⊎-elim
+      (λ s. inl s)
+      (λ s.
+      let n = numberOf doc (s .v) in
+      inr
+      (record {
         v = s .v;
         chosen = s .chosen;
         here = s .here;
-        none = λ f i h. omega (arith, s .fewer, present-counted doc p r flat (numberOf doc (s .v)) held f i h);
-      }
+        more = omega (arith, s .beyond, count-within (counts doc p r n) (λ f. inGroup doc r n f && p f) (counts-present doc p r flat n) 0 (doc .size));
+      }))
+      (counted-offence l h k v bad)
+
+  -- and those present are counted, where every version counts
+  pub fewer-present : ((v f : ℕ) → inRow doc r v f ≡ true → p f ≡ true → p v ≡ true) → eqb (r .distinct) 1 ≡ false → (s : Fewer doc p r low)
+      → count (λ f. inGroup doc r (numberOf doc (s .v)) f && p f) 0 (doc .size) < low
+  fewer-present held every s =
+      let n = numberOf doc (s .v) in
+      omega (
+        arith,
+        s .fewer,
+        count-within (λ f. inGroup doc r n f && p f) (counts doc p r n)
+            (λ f t. every-counts doc p r flat n every f (present-under doc p r flat n held f (and-l (inGroup doc r n f) (p f) t) (and-r (inGroup doc r n f) (p f) t)))
+            0 (doc .size),
+      )
 
 -- What more than `high` present ones under an item number come to.
 module _ (doc : Doc) (p : ℕ → Bool) (r : Rule) (high : ℕ) (s : More doc p r high) where

@@ -1,18 +1,18 @@
 -- A non-sequenced rule of each kind: what the passes promise of each part of its offence is that no version offends at an earlier place.
 use mathlib.Core.Path.{_≡_, refl, sym, ap, _∙_}
-use mathlib.Core.Logic.{⊎-elim}
-use mathlib.Core.Bool.{Bool, true, false, _&&_}
+use mathlib.Core.Logic.{_⊎_, ⊎-elim}
+use mathlib.Core.Bool.{true, false, _&&_}
 use mathlib.Core.List.{List}
 use Prim.Native.Nat.{ℕ, _≤_, _<_}
 use native.Mathlib.Omega.{arith}
 use lib.IntN.{pos}
-use lib.Dec.{ltb}
+use lib.Dec.{ltb, eqb}
 use borrow.Author.Tests.{ltb-true, eqb-true, eq-eqb}
 use Rattle.meaning.specs.declared.Rule.{Rule}
 use Rattle.meaning.specs.Document.{Doc, isVersion, numberOf}
 use Rattle.meaning.specs.Rules.{isSequenced}
 use Rattle.meaning.specs.Select.{selected, valued}
-use Rattle.meaning.specs.Window.{meets, offendsIn}
+use Rattle.meaning.specs.Window.{meets, offendsIn, least}
 use Rattle.meaning.proofs.Basics.{le-or-lt, and-l, and-r}
 use Rattle.meaning.proofs.Selects.{selected-version}
 use Rattle.columns.specs.Judgeable.{Judgeable}
@@ -20,25 +20,27 @@ use Rattle.marks.specs.Marks.{Marks}
 use Rattle.values.specs.Represents.{Represents}
 use Rattle.prepare.specs.Rows.{wants, inRow}
 use Rattle.prepare.specs.Keys.{Keys}
-use Rattle.groups.specs.Groups.{Groups, inGroup}
+use Rattle.groups.specs.Groups.{Groups}
 use Rattle.groups.specs.Classes.{classAt}
 use Rattle.groups.proofs.Gathering.{class-here}
 use Rattle.passes.specs.Passes.{at, ByLeast}
 use Rattle.places.specs.declared.Places.{Places}
-use Rattle.places.specs.Placing.{startOf, endOf, windowAt, Counted}
+use Rattle.places.proofs.Days.{least-above}
+use Rattle.places.specs.Placing.{startOf, endOf, windowAt, Counted, High}
 use Rattle.soonest.specs.Soon.{offendsAt, Soon}
-use Rattle.soonest.specs.Lined.{Begun, Lined}
+use Rattle.soonest.specs.Lined.{Begun, Lined, ChosenIn, RowsIn}
 use Rattle.soonest.specs.Given.{Reaching}
 use Rattle.crowds.specs.Crowds.{ByMany}
-use Rattle.soonest.specs.Parts.{ByShared, ByUnheld, ByFew}
-use Rattle.soonest.proofs.Tallies.{uncounted}
+use Rattle.distinct.specs.Values.{ByManyValues}
+use Rattle.soonest.specs.Parts.{ByShared, ByUnheld, ByFew, ByFewValues}
 use Rattle.soonest.proofs.Nested.{meets-nested}
-use Rattle.soonest.proofs.WindowOffences.{key-offence, unique-offence, reference-offence, cardinality-offence, fewer-lacks, datatype-offence}
-use Rattle.soonest.proofs.Sweeping.{stands, row-is, row-held, row-chosen, row-version, row-here, shared-soon, few-numbered, many-numbered, lacks-soon, unheld-soon}
+use Rattle.soonest.proofs.WindowOffences.{key-offence, unique-offence, reference-offence, cardinality-offence, counted-offence, fewer-present, datatype-offence}
+use Rattle.soonest.proofs.Sweeping.{stands, row-is, row-held, row-chosen, row-here, shared-soon, few-numbered, many-numbered, lacks-soon, unheld-soon}
+use Rattle.soonest.proofs.Valuing.{few-valued, many-valued}
 use Rattle.soonest.proofs.DaySoon.{soon-from}
 
-module _ (doc : Doc) (q r : Rule) (places : Places) (order closes lo hi : List ℕ) (lined : Lined doc places order closes lo hi) (judgeable : Judgeable doc)
-    (windowed : isSequenced r ≡ false) (rows : List ℕ) (keys : Keys doc r rows) (D : ℕ) where
+module _ (doc : Doc) (q r : Rule) (places : Places) (order lo hi : List ℕ) (lined : Lined doc places order lo hi) (judgeable : Judgeable doc)
+    (windowed : isSequenced r ≡ false) (rows : List ℕ) (keys : Keys doc r rows) (read : RowsIn doc (lined .begun .member) r) (D : ℕ) where
   -- an offence as in a window
   in-window : ((k v : ℕ) → k < places .count → offendsIn doc (meets doc (windowAt places k)) q r v ≡ true → D ≤ k) → Soon doc q r places D
   unfolding offendsAt
@@ -62,67 +64,79 @@ module _ (doc : Doc) (q r : Rule) (places : Places) (order closes lo hi : List �
       pub unique-windows : r .kind ≡ 2 → Soon doc q r places D
       unique-windows kind =
           in-window (λ k v h e.
-          shared-soon doc places order closes lo hi lined k h r rows keys reps represents (numberOf doc) nums numbers-tell D shared
+          shared-soon doc places order lo hi lined k h r rows keys read reps represents (numberOf doc) nums numbers-tell D shared
           (unique-offence doc (meets doc (windowAt places k)) q r windowed v e kind))
 
       -- or no value
-      pub key-windows : (chosen own : List ℕ) → Marks (selected doc r) (doc .size) chosen → ((x : ℕ) → x < doc .size → at own x ≡ x)
+      pub key-windows : (chosen own : List ℕ) → Marks (selected doc r) (doc .size) chosen → ChosenIn doc (lined .begun .member) r → ((x : ℕ) → x < doc .size → at own x ≡ x)
           → ByFew order chosen own rows lo hi (doc .size) 1 D → r .kind ≡ 1 → Soon doc q r places D
-      key-windows chosen own marks numbers few kind =
+      key-windows chosen own marks chosen-in numbers few kind =
           in-window (λ k v h e.
           ⊎-elim
-          (lacks-soon doc places order closes lo hi lined k h r rows keys chosen own marks numbers D few)
-          (shared-soon doc places order closes lo hi lined k h r rows keys reps represents (numberOf doc) nums numbers-tell D shared)
+          (lacks-soon doc places order lo hi lined k h r rows keys read chosen own marks chosen-in numbers D few)
+          (shared-soon doc places order lo hi lined k h r rows keys read reps represents (numberOf doc) nums numbers-tell D shared)
           (key-offence doc (meets doc (windowAt places k)) q r windowed v e kind))
 
-    -- none where one is asked for, or too many under an item number
-    pub cardinality-windows : (chosen : List ℕ) → Marks (selected doc r) (doc .size) chosen → (low high : ℕ) → low ≤ 1 → pos low ≡ r .low → pos high ≡ r .high
-        → ByFew order chosen groups nums lo hi (doc .size) low D → ByMany nums lo hi (doc .size) high D → r .kind ≡ 4 → Soon doc q r places D
-    cardinality-windows chosen marks low high one l m few many kind =
+    -- under an item number too few, or too many, where every version counts
+    pub cardinality-windows : (chosen : List ℕ) → Marks (selected doc r) (doc .size) chosen → ChosenIn doc (lined .begun .member) r → (low high : ℕ) → eqb (r .distinct) 1 ≡ false
+        → pos low ≡ r .low → pos high ≡ r .high → ByFew order chosen groups nums lo hi (doc .size) low D → ByMany nums lo hi (doc .size) high D → r .kind ≡ 4
+        → Soon doc q r places D
+    cardinality-windows chosen marks chosen-in low high every l m few many kind =
         in-window (λ k v h e.
         let p = meets doc (windowAt places k) in
         ⊎-elim
         (λ s.
-        let lacks = fewer-lacks doc p q r windowed low high (meets-nested doc judgeable (windowAt places k) r) one s in
-        let u = lacks .v in
-        let member : ℕ → Bool = λ f. inGroup doc r (numberOf doc u) f && p f in
-        let fewer : _ = s .fewer in
-        few-numbered doc places order closes lo hi lined k h r rows keys groups nums (judgeable .few) classes each u (lacks .chosen) chosen marks low D few (lacks .here)
-        (omega (
-          arith,
-          uncounted member 0 (doc .size)
-              (λ f t. lacks .none f (and-l (inGroup doc r (numberOf doc u) f) (p f) t) (and-r (inGroup doc r (numberOf doc u) f) (p f) t)),
-        )))
+        few-numbered doc places order lo hi lined k h r rows keys read groups nums (judgeable .few) classes each (s .v) (s .chosen) chosen marks chosen-in low D few (s .here)
+        (fewer-present doc p q r windowed low high (meets-nested doc judgeable (windowAt places k) r) every s))
         (λ s.
-        many-numbered doc places order closes lo hi lined k h r rows keys groups nums (judgeable .few) classes each (s .v) (s .chosen) high D many (s .more))
+        many-numbered doc places order lo hi lined k h r rows keys read groups nums (judgeable .few) classes each (s .v) (s .chosen) high D many (s .more))
         (cardinality-offence doc p q r windowed low high l m kind v e))
+
+    -- too few values, or too many, where values are counted
+    pub value-windows : (reps : List ℕ) → Represents doc reps → (chosen : List ℕ) → Marks (selected doc r) (doc .size) chosen → ChosenIn doc (lined .begun .member) r → (low high : ℕ)
+        → eqb (r .distinct) 1 ≡ true → pos low ≡ r .low → pos high ≡ r .high → ByFewValues order chosen groups nums reps lo hi (doc .size) low D
+        → ByManyValues nums reps lo hi (doc .size) high D → r .kind ≡ 4 → Soon doc q r places D
+    value-windows reps represents chosen marks chosen-in low high distinct l m few many kind =
+        in-window (λ k v h e.
+        let p = meets doc (windowAt places k) in
+        let held = meets-nested doc judgeable (windowAt places k) r in
+        ⊎-elim
+        (λ s.
+        few-valued doc places order lo hi lined k h r windowed held distinct rows keys read groups nums reps (judgeable .few) classes represents each (s .v) (s .chosen) chosen marks chosen-in low D few
+        (s .here) (s .fewer))
+        (λ s.
+        many-valued doc places order lo hi lined k h r windowed held distinct rows keys read groups nums reps (judgeable .few) classes represents each (s .v) (s .chosen) high D many (s .beyond))
+        (counted-offence doc p q r windowed low high l m kind v e))
 
   -- a value that no row of the other rule has
   pub reference-windows : (reps : List ℕ) → Represents doc reps → (others : List ℕ) → Keys doc q others → ((f : ℕ) → wants doc q f ≡ valued doc f)
       → ByUnheld order rows others reps lo hi (doc .size) D → r .kind ≡ 3 → Soon doc q r places D
   reference-windows reps represents others other-keys wanted unheld kind =
       in-window (λ k v h e.
-      unheld-soon doc places order closes lo hi lined k h r q rows others reps keys other-keys represents D unheld
+      unheld-soon doc places order lo hi lined k h r q rows others reps keys other-keys represents read D unheld
       (reference-offence doc (meets doc (windowAt places k)) q r windowed v e wanted (meets-nested doc judgeable (windowAt places k) q) kind))
 
 -- a value that is no number, or a wrong step from one that the window reaches back to
 pub datatype-windows : (doc : Doc) (q r : Rule) (places : Places) (order lo rows until : List ℕ) (n D : ℕ) → ByLeast order rows lo until n D → doc .size ≡ n
-    → Begun doc places order lo → Judgeable doc → isSequenced r ≡ false → Keys doc r rows → Reaching doc r places until → Counted places → r .kind ≡ 5
+    → (begun : Begun doc places order lo) → RowsIn doc (begun .member) r → Judgeable doc → isSequenced r ≡ false → Keys doc r rows → Reaching doc r places order until → Counted places → r .kind ≡ 5
     → Soon doc q r places D
 unfolding ByLeast offendsAt meets
-datatype-windows doc q r places order lo rows until n D least size begun judgeable windowed keys reaching counted kind =
+datatype-windows doc q r places order lo rows until n D by-least size begun read judgeable windowed keys reaching counted kind =
     soon-from doc q r places D (λ k f h e.
     let start : startOf places k ≤ 36524 = omega (arith, counted .inside k h, counted .close-most) in
     let s = datatype-offence doc q r judgeable windowed (windowAt places k) (reaching .reach) (reaching .reaches) start kind f (rw windowed at e) in
-    let in-doc = row-here doc r (s .v) f (s .in-row) in
-    let is = row-version doc r (s .v) f (s .in-row) in
+    let m = read (s .v) f (s .in-row) in
     let row = row-is doc r rows keys (s .v) f (s .in-row) in
     let v = isVersion doc f in
     let b = ltb (doc .begin f) (endOf places k) in
     let t = ltb (startOf places k) (doc .end f) in
     let begins = ltb-true (doc .begin f) (endOf places k) (and-r v b (and-l (v && b) t (s .here))) in
-    least f k (stands doc lo order (begun .by-begin) f is) (omega (arith, row-held doc r (s .v) f (s .in-row)))
+    let on = stands lo order (begun .by-begin) f m in
+    let ends = ltb-true (startOf places k) (doc .end f) (and-r (v && b) t (s .here)) in
+    let late : startOf places k < least (at (reaching .reach) f) (doc .end f) = least-above (at (reaching .reach) f) (doc .end f) (startOf places k) (s .late) ends in
+    let high : High places (least (at (reaching .reach) f) (doc .end f)) (at until f) = rw (on .found) at (reaching .high (on .place) (on .below)) in
+    by-least f k on (omega (arith, row-held doc r (s .v) f (s .in-row)))
     (record {
-      from = ⊎-elim (λ l. l) (λ l. absurd (omega (arith, begun .low f is .before k l))) (le-or-lt (at lo f) k);
-      to = ⊎-elim (λ l. absurd (omega (arith, reaching .high f in-doc .past k h l, s .late))) (λ l. l) (le-or-lt (at until f) k);
+      from = ⊎-elim (λ l. l) (λ l. absurd (omega (arith, begun .low f m .before k l))) (le-or-lt (at lo f) k);
+      to = ⊎-elim (λ l. absurd (omega (arith, high .past k h l, late))) (λ l. l) (le-or-lt (at until f) k);
     }))

@@ -10,6 +10,7 @@ use Rattle.meaning.specs.Document.{Doc, isVersion}
 use Rattle.meaning.specs.Rules.{isReference}
 use Rattle.meaning.specs.Select.{selected, valued}
 use Rattle.meaning.specs.Block.{limit}
+use Rattle.meaning.specs.Window.{least}
 use Rattle.columns.specs.Lent.{Lends, Periods}
 use Rattle.columns.specs.Judgeable.{Judgeable}
 use Rattle.marks.specs.Marks.{Marks}
@@ -33,6 +34,7 @@ pub record Given (doc : Doc) (q r : Rule) (places : Places) (vkinds : List ℕ) 
   pub classes : Groups doc groups
   pub opened : InOrder (isVersion doc) begins opens (length opens)
   pub closed : InOrder (isVersion doc) ends closes (length closes)
+  pub few-opens : length opens ≤ limit
   pub few : length closes ≤ limit
   pub chosen-are : Marks (selected doc r) (doc .size) chosen
   pub rows-are : Keys doc r rows
@@ -40,9 +42,9 @@ pub record Given (doc : Doc) (q r : Rule) (places : Places) (vkinds : List ℕ) 
   pub others-are : isReference r ≡ true → Keys doc q others × ((f : ℕ) → wants doc q f ≡ valued doc f)
   pub counted : Counted places
 
--- for each record the place from which on no window reaches back far enough for it to offend a datatype rule
-pub record Reaching (doc : Doc) (r : Rule) (places : Places) (until : List ℕ) : Type 0 where
+-- for each record of an order the place from which on it is not present, or no window reaches back far enough for it to offend a datatype rule
+pub record Reaching (doc : Doc) (r : Rule) (places : Places) (order until : List ℕ) : Type 0 where
   pub reach : List ℕ
   pub reaches : Reaches doc r reach
   pub room : doc .size ≤ length until
-  pub high : (x : ℕ) → x < doc .size → High places (at reach x) (at until x)
+  pub high : (j : ℕ) → j < length order → High places (least (at reach (at order j)) (doc .end (at order j))) (at until (at order j))

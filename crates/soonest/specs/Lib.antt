@@ -5,3 +5,4 @@ pub mod Keyed
 pub mod Parts
 pub mod Swept
 pub mod Given
+pub mod Matched

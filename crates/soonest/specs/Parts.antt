@@ -7,6 +7,7 @@ use lib.ListN.{length}
 use Rattle.marks.specs.Marks.{marked}
 use Rattle.passes.specs.Passes.{at, On, Present}
 use Rattle.crowds.specs.Crowds.{present}
+use Rattle.distinct.specs.Values.{values}
 
 -- D is no later than any place at which two records of one row are present
 unfoldable pub ByTwice : (order rows lo hi : List ℕ) (n D : ℕ) → Type 0
@@ -29,6 +30,16 @@ ByUnheld order rows others reps lo hi n D =
 unfoldable pub ByFew : (order marks classes keys lo hi : List ℕ) (n low D : ℕ) → Type 0
 ByFew order marks classes keys lo hi n low D =
     (x p : ℕ) → On order x → marked marks x ≡ true → Present lo hi x p → present keys lo hi n (at classes x) p < low → D ≤ p
+
+-- the same of values: D is no later than any place at which a marked record is present, and fewer than `low` values of the records whose key is its class are
+unfoldable pub ByFewValues : (order marks classes keys reps lo hi : List ℕ) (n low D : ℕ) → Type 0
+ByFewValues order marks classes keys reps lo hi n low D =
+    (x p : ℕ) → On order x → marked marks x ≡ true → Present lo hi x p → values keys reps lo hi n (at classes x) p < low → D ≤ p
+
+-- D is no later than any place at which a marked one of n records is present, from lo on, and fewer than `low` records whose key is its class are, from `first` on
+unfoldable pub ByFewFirst : (marks classes keys lo first hi : List ℕ) (n low D : ℕ) → Type 0
+ByFewFirst marks classes keys lo first hi n low D =
+    (x p : ℕ) → x < n → marked marks x ≡ true → Present lo hi x p → present keys first hi n (at classes x) p < low → D ≤ p
 
 -- a column that has a number below n for each of n records
 pub record Small (n : ℕ) (column : List ℕ) : Type 0 where

@@ -1,4 +1,5 @@
 // The soonest window of a non-sequenced rule in which it can fail, by its kind.
+use crate::by_value;
 use crate::counts;
 use crate::keys;
 use crate::on_days;
@@ -35,17 +36,18 @@ fn key(
     ensures { λ r. ⌜ ByFew (now (order .entry)) (now (chosen .entry)) (now (own .entry)) (now (row .entry)) (now (lo .entry)) (now (hi .entry)) n 1 r × ByShared (now (order .entry)) (now (row .entry)) (now (rep .entry)) (now (number .entry)) (now (lo .entry)) (now (hi .entry)) n r ⌝ }
 {
     sooner(
-        counts::too_few(order, chosen, own, row, lo, hi, n, 1),
+        counts::lacking(order, chosen, own, row, lo, hi, n),
         parts::shared(order, row, rep, number, lo, hi, n),
     )
 }
 
-// The soonest window, from 0, of a rule that is no datatype: nothing offends in any window before it. A minimum of two and more is not looked for
-// yet: the answer is then 0. Cost: that of the parts that the kind has, and a pass over the records for the classes of their rows.
+// The soonest window, from 0, of a rule that is no datatype: nothing offends in any window before it. Cost: that of the parts that the kind has, and a
+// pass over the records for the classes of their rows.
 pub fn in_windows(
     kind: u8,
     low: usize,
     high: usize,
+    distinct: u8,
     order: &[u16],
     closes: &[u16],
     chosen: &[u8],
@@ -58,7 +60,7 @@ pub fn in_windows(
     n: usize,
 ) -> u16
     requires { ⌜ ((doc : Doc) × (q : Rule) × (r : Rule) × (places : Places) × Swept doc q r places (now order) (now closes) (now chosen) (now row) (now other) (now rep) (now lo) (now hi) kind low high × Groups doc (now group) × (doc .size ≡ n)) ⌝ }
-    ensures { λ x. ⌜ ((doc : Doc) → (q r : Rule) → (places : Places) → Swept doc q r places (now (order .entry)) (now (closes .entry)) (now (chosen .entry)) (now (row .entry)) (now (other .entry)) (now (rep .entry)) (now (lo .entry)) (now (hi .entry)) kind low high → Groups doc (now (group .entry)) → doc .size ≡ n → isSequenced r ≡ false → (5 ≤ kind → ⊥) → Soon doc q r places x) ⌝ }
+    ensures { λ x. ⌜ ((doc : Doc) → (q r : Rule) → (places : Places) → Swept doc q r places (now (order .entry)) (now (closes .entry)) (now (chosen .entry)) (now (row .entry)) (now (other .entry)) (now (rep .entry)) (now (lo .entry)) (now (hi .entry)) kind low high → Groups doc (now (group .entry)) → doc .size ≡ n → isSequenced r ≡ false → (5 ≤ kind → ⊥) → distinct ≡ r .distinct → Soon doc q r places x) ⌝ }
 {
     if kind == 3 {
         return parts::unheld(order, row, other, rep, lo, hi, n);
@@ -71,8 +73,20 @@ pub fn in_windows(
         let own = keys::numbered(n);
         return key(order, chosen, &own, row, rep, &number, lo, hi, n);
     }
-    if 1 < low {
-        return 0;
+    if distinct == 1 {
+        return by_value::cardinality(
+            order,
+            closes,
+            chosen,
+            group,
+            &number,
+            rep,
+            lo,
+            hi,
+            n,
+            low,
+            high,
+        );
     }
     on_days::cardinality(order, closes, chosen, group, &number, lo, hi, n, low, high)
 }

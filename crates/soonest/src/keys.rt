@@ -1,4 +1,4 @@
-// Columns of keys for the passes, made of what a rule picks out: a record without one has LIMIT.
+// Columns for the passes, made of what a rule picks out: keys, of which a record without one has LIMIT, and days.
 use columns::LIMIT;
 use numbers::index;
 ghost use mathlib.Core.Path.{_≡_};
@@ -7,7 +7,8 @@ ghost use Prim.Native.Nat.{_<_, _≤_};
 ghost use lib.Dec.{eqb, ltb};
 ghost use lib.ListN.{length};
 ghost use Rattle.meaning.specs.Block.{limit};
-ghost use Rattle.soonest.specs.Keyed.{Numbered, DemandKeys, ValueKeys};
+ghost use Rattle.meaning.specs.Window.{least};
+ghost use Rattle.soonest.specs.Keyed.{Numbered, DemandKeys, ValueKeys, Earlier};
 
 // Each of n records by its own number. Cost: one pass.
 pub fn numbered(n: usize) -> [u16; LIMIT]
@@ -66,6 +67,30 @@ pub fn value_keys(row: &[u16], rep: &[u16], n: usize) -> [u16; LIMIT]
     let mut i = 0;
     while i < n {
         out[i] = if_in_row(row[i], n, rep[i]);
+        i += 1;
+    }
+    out
+}
+
+// The earlier of two days. Cost: one test.
+fn earlier(a: u16, b: u16) -> u16
+    ensures { λ r. ⌜ r ≡ least a b ⌝ }
+{
+    if a <= b {
+        return a;
+    }
+    b
+}
+
+// For each of n records the earlier of two days. Cost: one pass.
+pub fn earlier_days(one: &[u16], other: &[u16], n: usize) -> [u16; LIMIT]
+    requires { ⌜ (n ≤ limit) × (n ≤ length (now one)) × (n ≤ length (now other)) ⌝ }
+    ensures { λ r. ⌜ Earlier n (now (one .entry)) (now (other .entry)) r ⌝ }
+{
+    let mut out = [0u16; LIMIT];
+    let mut i = 0;
+    while i < n {
+        out[i] = earlier(one[i], other[i]);
         i += 1;
     }
     out

@@ -1,4 +1,5 @@
 // The soonest day of a sequenced rule's period on which it can fail, by its kind.
+use crate::alone;
 use crate::counts;
 use crate::keys;
 use crate::parts;
@@ -14,7 +15,8 @@ ghost use Rattle.meaning.specs.Rules.{isSequenced};
 ghost use Rattle.places.specs.declared.Places.{Places};
 ghost use Rattle.crowds.specs.Crowds.{ByMany, Ordered};
 ghost use Rattle.soonest.specs.Lined.{Ground};
-ghost use Rattle.soonest.specs.Parts.{ByTwice, ByShared, ByUnheld, ByFew, Small};
+ghost use Rattle.soonest.specs.Parts.{ByTwice, ByShared, ByFew, Small};
+ghost use Rattle.soonest.specs.Matched.{ByUnmatched};
 ghost use Rattle.soonest.specs.Soon.{Soon};
 ghost use Rattle.soonest.specs.Swept.{Swept};
 
@@ -29,7 +31,7 @@ fn unique(order: &[u16], row: &[u16], rep: &[u16], lo: &[u16], hi: &[u16], n: us
     )
 }
 
-// A reference: two values in a row of either rule, or a value that no row of the other rule has.
+// A reference: two values in a row, or a value that no row of the other rule has as its only one.
 fn reference(
     order: &[u16],
     row: &[u16],
@@ -40,13 +42,12 @@ fn reference(
     n: usize,
 ) -> u16
     requires { ⌜ (n ≤ limit) × Ground (now order) (now lo) (now hi) n × (n ≤ length (now row)) × (n ≤ length (now other)) × Small n (now rep) ⌝ }
-    ensures { λ r. ⌜ ByTwice (now (order .entry)) (now (row .entry)) (now (lo .entry)) (now (hi .entry)) n r × ByTwice (now (order .entry)) (now (other .entry)) (now (lo .entry)) (now (hi .entry)) n r × ByUnheld (now (order .entry)) (now (row .entry)) (now (other .entry)) (now (rep .entry)) (now (lo .entry)) (now (hi .entry)) n r ⌝ }
+    ensures { λ r. ⌜ ByTwice (now (order .entry)) (now (row .entry)) (now (lo .entry)) (now (hi .entry)) n r × ByUnmatched (now (order .entry)) (now (row .entry)) (now (other .entry)) (now (rep .entry)) (now (lo .entry)) (now (hi .entry)) n r ⌝ }
 {
-    let doubled = sooner(
+    sooner(
         parts::twice(order, row, lo, hi, n),
-        parts::twice(order, other, lo, hi, n),
-    );
-    sooner(doubled, parts::unheld(order, row, other, rep, lo, hi, n))
+        alone::unmatched(order, row, other, rep, lo, hi, n),
+    )
 }
 
 // A cardinality: too few of the class of a marked record, or too many of one key.
@@ -66,7 +67,7 @@ pub fn cardinality(
     ensures { λ r. ⌜ ByFew (now (order .entry)) (now (marks .entry)) (now (class .entry)) (now (key .entry)) (now (lo .entry)) (now (hi .entry)) n low r × ByMany (now (key .entry)) (now (lo .entry)) (now (hi .entry)) n high r ⌝ }
 {
     sooner(
-        counts::too_few(order, marks, class, key, lo, hi, n, low),
+        counts::too_few(order, closes, marks, class, key, lo, hi, n, low),
         counts::too_many(order, closes, key, lo, hi, n, high),
     )
 }
@@ -86,7 +87,7 @@ fn key(
     ensures { λ r. ⌜ ByFew (now (order .entry)) (now (chosen .entry)) (now (own .entry)) (now (row .entry)) (now (lo .entry)) (now (hi .entry)) n 1 r × ByTwice (now (order .entry)) (now (row .entry)) (now (lo .entry)) (now (hi .entry)) n r × ByShared (now (order .entry)) (now (row .entry)) (now (rep .entry)) (now (row .entry)) (now (lo .entry)) (now (hi .entry)) n r ⌝ }
 {
     sooner(
-        counts::too_few(order, chosen, own, row, lo, hi, n, 1),
+        counts::lacking(order, chosen, own, row, lo, hi, n),
         unique(order, row, rep, lo, hi, n),
     )
 }

@@ -1,11 +1,8 @@
--- `soonest::reaching` meets its contract: the places of the reaches are laid out.
+-- `soonest::reaching` meets its contract: the places of the reaches are laid out along the order.
 use mir.Syntax.{w32}
-use Rattle.numbers.proofs.Signs.{given}
-use Prim.Native.Nat.{ℕ, _≤_}
 use native.Mathlib.Omega.{arith}
-use lib.ListN.{length, length-take, length-replicate}
-use Rattle.meaning.specs.Block.{limit}
-use Rattle.soonest.proofs.Lining.{reaching-of}
+use Rattle.numbers.proofs.Signs.{given}
+use Rattle.soonest.proofs.Lining.{reaching-of, covers-limit}
 use borrow.Author.Needs.{needs}
 use Rattle.soonest.proofs.reaching.Statement.{statement}
 use Rattle.soonest.proofs.reaching.Tie as tie
@@ -13,49 +10,46 @@ use Rattle.soonest.proofs.reaching.Tie as tie
 reaches-swept-requires : tie.Need-reaches-swept-requires
 reaches-swept-requires c κs = search needs
 
-sub-lay-high : tie.Need-sub-lay-high
-sub-lay-high c = search needs
+-- from the slice of the reaches back to the start
+abbrev entry : tie.After-reaches-swept → tie.Start
+entry c = c .before .before .before .before .before .before .before .before .before .before
 
-part-lay-high-start : tie.Need-part-lay-high-start
-part-lay-high-start c = search needs
+slice-aggregate-earlier-days : tie.Need-slice-aggregate-earlier-days
+slice-aggregate-earlier-days c = search needs
 
-part-lay-high-end : tie.Need-part-lay-high-end
-part-lay-high-end c = search needs
+earlier-days-requires : tie.Need-earlier-days-requires
+earlier-days-requires c κs =
+    let d = entry (c .before) .pre .3 in
+    let few = d .2 .few in
+    let b = d .1 .periods .begin .size in
+    let e = d .1 .periods .end .size in
+    (omega (arith, few, b), search (needs, few, b), omega (arith, b, e))
 
 slice-aggregate-lay-high : tie.Need-slice-aggregate-lay-high
 slice-aggregate-lay-high c = search needs
 
+slice-aggregate-lay-high-2 : tie.Need-slice-aggregate-lay-high-2
+slice-aggregate-lay-high-2 c = search needs
+
 -- from where the places are laid out back to the call of `reaches-swept`
 abbrev reached : tie.After-until → tie.After-reaches-swept
-reached c = c .before .before .before
-
--- from there back to the start
-abbrev entry : tie.After-reaches-swept → tie.Start
-entry c = c .before .before .before .before .before .before .before .before .before
+reached c = c .before .before .before .before
 
 lay-high-requires : tie.Need-lay-high-requires
 lay-high-requires c κs =
-    let s = reached c in
-    let p = entry s .pre in
-    let few : length (entry s .args .vkind .now) ≤ limit = omega (arith, p .2 .1 .vkind .size, p .2 .2 .few) in
-    (p .0, p .1, simp length-take (omega (arith, length-replicate {A = ℕ} limit 0)))
+    let p = entry (reached c) .pre in
+    let d = p .3 in
+    (p .0, p .1, covers-limit _ _ _ (p .2) (d .0) (d .1 .periods) (d .2) (search needs), covers-limit _ _ _ (p .2) (d .0) (d .1 .periods) (d .2) (search needs))
 
 returns : tie.Need-returns
 returns c =
-    let s = reached (c .before .before) in
+    let u = c .before .before in
+    let s = reached u in
     let told = s .before .struct-told2 .given .1 .1 .1 .1 .1 .1 .1 in
     let z = entry s .args .rule in
     λ doc k j w.
-    reaching-of doc _ _ _ _ _ (s .reaches-swept .ensures doc _ k j w (given w32 {z = z .low} (told .0 .1)) (given w32 {z = z .high} (told .1 .0 .1))) (k .vkind .size) (search needs) (c .before .lay-high .ensures .1)
+    reaching-of doc _ _ _ _ _ _ _ _ (s .reaches-swept .ensures doc _ k j w (given w32 {z = z .low} (told .0 .1)) (given w32 {z = z .high} (told .1 .0 .1))) (k .periods) (entry s .pre .2)
+    (u .before .before .earlier-days .ensures) (search needs) (c .before .lay-high .ensures .1)
 
 pub reaching-spec : {M : Type 1} → statement M
-reaching-spec =
-    tie.close
-    (tie.spec
-    reaches-swept-requires
-    sub-lay-high
-    part-lay-high-start
-    part-lay-high-end
-    slice-aggregate-lay-high
-    lay-high-requires
-    returns)
+reaching-spec = tie.close (tie.spec reaches-swept-requires slice-aggregate-earlier-days earlier-days-requires slice-aggregate-lay-high slice-aggregate-lay-high-2 lay-high-requires returns)

@@ -1,8 +1,6 @@
--- `soonest::soonest` meets its contract: the versions are lined up by the places laid out, and the kinds find the soonest.
-use native.Mathlib.Omega.{arith}
-use borrow.Author.Tests.{eq-eqb, ne-eqb}
-use Rattle.soonest.proofs.Lining.{lined-of, swept-of, size-of, closing-of, begun-of, given-until, five}
-use Rattle.soonest.proofs.WindowSoon.{datatype-windows}
+-- `soonest::soonest` meets its contract: what the rule reads is lined up by the places laid out, and the kinds find the soonest.
+use mathlib.Core.Path.{refl}
+use Rattle.soonest.proofs.Lining.{size-of, columns-fit, opens-covered, closes-covered, covers-of, closing-of, given-until, steps-found, swept-begins, swept-ends, stepped, unstepped}
 use borrow.Author.Needs.{needs}
 use Rattle.soonest.proofs.soonest.Statement.{statement}
 use Rattle.soonest.proofs.soonest.Tie as tie
@@ -10,66 +8,104 @@ use Rattle.soonest.proofs.soonest.Tie as tie
 terms-requires : tie.Need-terms-requires
 terms-requires c κs = search needs
 
+asked-requires : tie.Need-asked-requires
+asked-requires c κs = search needs
+
+-- from the call of `terms` back to the start
+abbrev entry : tie.After-terms → tie.Start
+entry c = c .before .before .before .before .before .before .before .before .before .before .before
+
+read-marks-requires : tie.Need-read-marks-requires
+read-marks-requires c κs = columns-fit _ _ _ _ _ _ _ _ _ _ _ _ _ _ _ (entry (c .before) .pre .2 .2)
+
+-- from the marks of what is read back to the call of `terms`
+abbrev before-marks : tie.After-read-marks → tie.After-terms
+before-marks c = c .before .before
+
+slice-aggregate-pick : tie.Need-slice-aggregate-pick
+slice-aggregate-pick c = search needs
+
+slice-aggregate-pick-2 : tie.Need-slice-aggregate-pick-2
+slice-aggregate-pick-2 c = search needs
+
+pick-requires : tie.Need-pick-requires
+pick-requires c κs =
+    let d = c .before .before in
+    let g = entry (before-marks d) .pre .2 .2 in
+    (opens-covered _ _ _ _ _ _ _ _ _ _ _ _ _ _ _ g _ _ (d .read-marks .ensures), search (needs, g .few-opens))
+
+-- from the first call of `pick` back to the marks
+abbrev marked-read : tie.After-pick → tie.After-read-marks
+marked-read c = c .before .before .before
+
+-- and back to the call of `terms`
+abbrev termed : tie.After-pick → tie.After-terms
+termed c = before-marks (marked-read c)
+
+sub-lay-low : tie.Need-sub-lay-low
+sub-lay-low c = search needs
+
+part-lay-low-start : tie.Need-part-lay-low-start
+part-lay-low-start c = search needs
+
+part-lay-low-end : tie.Need-part-lay-low-end
+part-lay-low-end c = search needs
+
 slice-aggregate-lay-low : tie.Need-slice-aggregate-lay-low
 slice-aggregate-lay-low c = search needs
 
 lay-low-requires : tie.Need-lay-low-requires
-lay-low-requires c κs = search needs
+lay-low-requires c κs =
+    let o = c .before .before .before in
+    let a = o .before in
+    let p = entry (termed a) .pre in
+    let g = p .2 .2 in
+    let k = a .pick in
+    (p .0, g .counted, covers-of _ _ _ _ _ _ _ _ _ _ _ _ _ _ _ g _ _ (marked-read a .read-marks .ensures) _ _ (k .ensures .2) (k .ensures .1) _ (search needs), covers-of _ _ _ _ _ _ _ _ _ _ _ _ _ _ _ g _ _ (marked-read a .read-marks .ensures) _ _ (k .ensures .2) (k .ensures .1) _ (search needs))
 
-slice-aggregate-lay-high : tie.Need-slice-aggregate-lay-high
-slice-aggregate-lay-high c = search needs
+-- from the call of `lay-low` back to that of `pick`
+abbrev after-pick : tie.After-lay-low → tie.After-pick
+after-pick c = c .before .before .before .before .before
 
-lay-high-requires : tie.Need-lay-high-requires
-lay-high-requires c κs = search needs
-
-slice-aggregate-on-days : tie.Need-slice-aggregate-on-days
-slice-aggregate-on-days c = search needs
-
-slice-aggregate-on-days-2 : tie.Need-slice-aggregate-on-days-2
-slice-aggregate-on-days-2 c = search needs
-
--- from where the rule's mode is looked at back to the call of `lay-high`
-abbrev laid : tie.After-struct-known → tie.After-lay-high
-laid c = c .before .before
-
--- from there back to the call of `lay-low`
-abbrev low-laid : tie.After-lay-high → tie.After-lay-low
+-- from where the mode is known back to the call of `lay-low`
+abbrev low-laid : tie.After-struct-known2 → tie.After-lay-low
 low-laid c = c .before .before .before
 
--- from there back to the call of `terms`
-abbrev termed : tie.After-lay-low → tie.After-terms
-termed c = c .before .before
+sub-reaching : tie.Need-sub-reaching
+sub-reaching c = search needs
 
--- and back to the start
-abbrev entry : tie.After-terms → tie.Start
-entry c = c .before .before .before .before .before .before .before .before .before .before .before
+part-reaching-start : tie.Need-part-reaching-start
+part-reaching-start c = search needs
 
-on-days-requires : tie.Need-on-days-requires
-on-days-requires c κs =
-    let h = laid (c .before .before .before) in
-    let l = low-laid h in
-    let t = termed l in
-    let p = entry t .pre in
-    let g = p .2 .2 in
-    (p .2 .0, p .2 .1, _, _, swept-of _ _ _ _ _ _ _ _ _ _ _ _ _ _ _ g _ _ _ _ _ (p .1) (t .terms .ensures) (lined-of _ _ _ _ _ _ _ _ _ _ _ _ _ _ _ g _ _ (l .lay-low .ensures .1) (h .lay-high .ensures .1) (search needs) (search needs)), size-of _ _ _ _ _ _ _ _ _ _ _ _ _ _ _ g)
-
-returns : tie.Need-returns
-returns c =
-    let h = laid (c .before .before .before .before) in
-    let l = low-laid h in
-    let t = termed l in
-    let p = entry t .pre in
-    λ doc q g. c .on-days .ensures doc q _ _ (swept-of _ _ _ _ _ _ _ _ _ _ _ _ _ _ _ g _ _ _ _ _ (p .1) (t .terms .ensures) (lined-of _ _ _ _ _ _ _ _ _ _ _ _ _ _ _ g _ _ (l .lay-low .ensures .1) (h .lay-high .ensures .1) (search needs) (search needs))) (size-of _ _ _ _ _ _ _ _ _ _ _ _ _ _ _ g) (eq-eqb _ 0 (c .before .before .before .if1 .taken))
+part-reaching-end : tie.Need-part-reaching-end
+part-reaching-end c = search needs
 
 reaching-requires : tie.Need-reaching-requires
 reaching-requires c κs =
-    let e = c .before .before in
-    let h = laid (e .before) in
-    let l = low-laid h in
-    let t = termed l in
-    let p = entry t .pre in
+    let t = c .before .before in
+    let a = after-pick (low-laid (t .before)) in
+    let p = entry (termed a) .pre in
     let g = p .2 .2 in
-    (p .0, g .counted, (p .2 .0, closing-of _ _ _ _ _ _ _ _ _ _ _ _ _ _ _ g, g .judgeable, ne-eqb _ 0 (e .if1 .left)))
+    let k = a .pick in
+    let z = entry (termed a) .args .rule in
+    (p .0, g .counted, covers-of _ _ _ _ _ _ _ _ _ _ _ _ _ _ _ g _ _ (marked-read a .read-marks .ensures) _ _ (k .ensures .2) (k .ensures .1) _ (search needs), (p .2 .0, closing-of _ _ _ _ _ _ _ _ _ _ _ _ _ _ _ g, g .judgeable, stepped (z .windowed) (z .kind) (t .if1 .taken) .0))
+
+sub-least : tie.Need-sub-least
+sub-least c = search needs
+
+part-least-start : tie.Need-part-least-start
+part-least-start c = search needs
+
+part-least-end : tie.Need-part-least-end
+part-least-end c = search needs
+
+-- from the columns of a datatype in windows back to the call of `reaching`
+abbrev reached : tie.After-until → tie.After-reaching
+reached c = c .before .before .before .before
+
+-- and to where it is known to be one
+abbrev in-windows : tie.After-until → tie.Then1
+in-windows c = reached c .before .before .before
 
 slice-aggregate-least : tie.Need-slice-aggregate-least
 slice-aggregate-least c = search needs
@@ -77,79 +113,220 @@ slice-aggregate-least c = search needs
 slice-aggregate-least-2 : tie.Need-slice-aggregate-least-2
 slice-aggregate-least-2 c = search needs
 
--- from the columns of a datatype back to where the rule is known to have windows
-abbrev stepped : tie.After-until → tie.Else1
-stepped c = c .before .before .before .before .before
-
 least-requires : tie.Need-least-requires
 least-requires c κs =
-    let e = stepped c in
-    let h = laid (e .before) in
-    let l = low-laid h in
-    let t = termed l in
-    let p = entry t .pre in
+    let t = in-windows c in
+    let l = low-laid (t .before) in
+    let a = after-pick l in
+    let p = entry (termed a) .pre in
     let g = p .2 .2 in
-    let r = c .before .before .reaching .ensures (p .2 .0) (closing-of _ _ _ _ _ _ _ _ _ _ _ _ _ _ _ g) (g .judgeable) (ne-eqb _ 0 (e .if1 .left)) in
-    given-until _ _ _ _ _ _ (begun-of _ _ _ _ _ _ _ _ _ _ _ _ _ _ _ g _ (l .lay-low .ensures .1) (search needs)) (g .rows-are .room) (r .room)
+    let k = a .pick in
+    let z = entry (termed a) .args .rule in
+    let u = reached c .reaching .ensures (p .2 .0) (closing-of _ _ _ _ _ _ _ _ _ _ _ _ _ _ _ g) (g .judgeable) (stepped (z .windowed) (z .kind) (t .if1 .taken) .0) in
+    given-until _ _ _ _ _ _ _ _ _ _ _ _ _ _ _ g _ _ (marked-read a .read-marks .ensures) _ _ (k .ensures .2) (k .ensures .1) _ (search needs) (l .lay-low .ensures .1) _ (u .room)
+
+returns : tie.Need-returns
+returns c =
+    let t = in-windows (c .before) in
+    let l = low-laid (t .before) in
+    let a = after-pick l in
+    let p = entry (termed a) .pre in
+    let k = a .pick in
+    let z = entry (termed a) .args .rule in
+    let w = stepped (z .windowed) (z .kind) (t .if1 .taken) in
+    λ doc q g.
+    steps-found doc q _ _ _ _ _ _ _ _ _ _ _ _ _ g _ _ (marked-read a .read-marks .ensures) _ _ (k .ensures .2) (k .ensures .1) _ (search needs) (l .lay-low .ensures .1) _ _ _ (c .least .ensures) refl (w .0)
+    (reached (c .before) .reaching .ensures doc (closing-of _ _ _ _ _ _ _ _ _ _ _ _ _ _ _ g) (g .judgeable) (w .0)) (p .1) (w .1)
+
+sub-lay-high : tie.Need-sub-lay-high
+sub-lay-high c = search needs
+
+part-lay-high-start : tie.Need-part-lay-high-start
+part-lay-high-start c = search needs
+
+part-lay-high-end : tie.Need-part-lay-high-end
+part-lay-high-end c = search needs
+
+slice-aggregate-lay-high : tie.Need-slice-aggregate-lay-high
+slice-aggregate-lay-high c = search needs
+
+lay-high-requires : tie.Need-lay-high-requires
+lay-high-requires c κs =
+    let e = c .before .before .before in
+    let a = after-pick (low-laid (e .before)) in
+    let p = entry (termed a) .pre in
+    let g = p .2 .2 in
+    let k = a .pick in
+    (p .0, g .counted, covers-of _ _ _ _ _ _ _ _ _ _ _ _ _ _ _ g _ _ (marked-read a .read-marks .ensures) _ _ (k .ensures .2) (k .ensures .1) _ (search needs), covers-of _ _ _ _ _ _ _ _ _ _ _ _ _ _ _ g _ _ (marked-read a .read-marks .ensures) _ _ (k .ensures .2) (k .ensures .1) _ (search needs))
+
+-- from where the kind is looked at back to the call of `lay-high`
+abbrev high-laid : tie.After-struct-known3 → tie.After-lay-high
+high-laid c = c .before .before
+
+-- and to where the rule is known to be no datatype in windows
+abbrev left : tie.After-lay-high → tie.Else1
+left c = c .before .before .before .before
+
+sub-swept : tie.Need-sub-swept
+sub-swept c = search needs
+
+part-swept-start : tie.Need-part-swept-start
+part-swept-start c = search needs
+
+part-swept-end : tie.Need-part-swept-end
+part-swept-end c = search needs
+
+slice-aggregate-swept : tie.Need-slice-aggregate-swept
+slice-aggregate-swept c = search needs
+
+slice-aggregate-swept-2 : tie.Need-slice-aggregate-swept-2
+slice-aggregate-swept-2 c = search needs
+
+-- from the columns of another kind back to where it is known to be no cardinality
+abbrev not-four : tie.After-hi3 → tie.Then2
+not-four c = c .before .before .before .before
+
+swept-requires : tie.Need-swept-requires
+swept-requires c κs =
+    let t = not-four c in
+    let h = high-laid (t .before) in
+    let l = low-laid (left h .before) in
+    let a = after-pick l in
+    let p = entry (termed a) .pre in
+    let k = a .pick in
+    let g = p .2 .2 in
+    (p .2 .0, p .2 .1, _, swept-begins _ _ _ _ _ _ _ _ _ _ _ _ _ _ _ g _ _ (marked-read a .read-marks .ensures) _ _ (k .ensures .2) (k .ensures .1) _ (search needs) (l .lay-low .ensures .1) _ (search needs) (h .lay-high .ensures .1) _ (t .if2 .taken) _ _ _ (p .1) (termed a .terms .ensures) (marked-read a .before .asked .ensures), g .classes, size-of _ _ _ _ _ _ _ _ _ _ _ _ _ _ _ g)
 
 returns-2 : tie.Need-returns-2
 returns-2 c =
-    let e = stepped (c .before) in
-    let h = laid (e .before) in
-    let l = low-laid h in
-    let t = termed l in
-    let p = entry t .pre in
-    let w = ne-eqb _ 0 (e .if1 .left) in
-    λ doc q g.
-    let r = c .before .before .before .reaching .ensures doc (closing-of _ _ _ _ _ _ _ _ _ _ _ _ _ _ _ g) (g .judgeable) w in
-    datatype-windows doc q _ _ _ _ _ _ _ _ (c .least .ensures) (size-of _ _ _ _ _ _ _ _ _ _ _ _ _ _ _ g) (begun-of _ _ _ _ _ _ _ _ _ _ _ _ _ _ _ g _ (l .lay-low .ensures .1) (search needs))
-    (g .judgeable) w (g .rows-are) r (g .counted) (five _ (p .1) (c .before .before .before .before .if2 .taken))
+    let t = not-four (c .before) in
+    let h = high-laid (t .before) in
+    let l = low-laid (left h .before) in
+    let a = after-pick l in
+    let p = entry (termed a) .pre in
+    let k = a .pick in
+    let z = entry (termed a) .args .rule in
+    λ doc q g. c .swept .ensures doc q _ (swept-begins _ _ _ _ _ _ _ _ _ _ _ _ _ _ _ g _ _ (marked-read a .read-marks .ensures) _ _ (k .ensures .2) (k .ensures .1) _ (search needs) (l .lay-low .ensures .1) _ (search needs) (h .lay-high .ensures .1) _ (t .if2 .taken) _ _ _ (p .1) (termed a .terms .ensures) (marked-read a .before .asked .ensures)) (g .classes) (size-of _ _ _ _ _ _ _ _ _ _ _ _ _ _ _ g) (unstepped (z .windowed) (z .kind) (left h .if1 .left))
 
-slice-aggregate-in-windows : tie.Need-slice-aggregate-in-windows
-slice-aggregate-in-windows c = search needs
+slice-aggregate-pick-3 : tie.Need-slice-aggregate-pick-3
+slice-aggregate-pick-3 c = let l = low-laid (left (high-laid (c .before .before)) .before) in search (needs, marked-read (after-pick l) .read-marks)
 
-slice-aggregate-in-windows-2 : tie.Need-slice-aggregate-in-windows-2
-slice-aggregate-in-windows-2 c = search needs
+slice-aggregate-pick-4 : tie.Need-slice-aggregate-pick-4
+slice-aggregate-pick-4 c = search needs
 
-in-windows-requires : tie.Need-in-windows-requires
-in-windows-requires c κs =
-    let h = laid (c .before .before .before .before .before) in
-    let l = low-laid h in
-    let t = termed l in
-    let p = entry t .pre in
+pick-requires-2 : tie.Need-pick-requires-2
+pick-requires-2 c κs =
+    let l = low-laid (left (high-laid (c .before .before .before)) .before) in
+    let a = after-pick l in
+    let g = entry (termed a) .pre .2 .2 in
+    (closes-covered _ _ _ _ _ _ _ _ _ _ _ _ _ _ _ g _ _ (marked-read a .read-marks .ensures), search (needs, g .few))
+
+sub-swept-2 : tie.Need-sub-swept-2
+sub-swept-2 c = search needs
+
+part-swept-start-2 : tie.Need-part-swept-start-2
+part-swept-start-2 c = search needs
+
+-- from the order of a cardinality back to where it is known to be one
+abbrev four : tie.After-order8 → tie.Else2
+four c = c .before .before .before .before .before
+
+part-swept-end-2 : tie.Need-part-swept-end-2
+part-swept-end-2 c = let l = low-laid (left (high-laid (four c .before)) .before) in search (needs, after-pick l .pick .ensures)
+
+sub-swept-3 : tie.Need-sub-swept-3
+sub-swept-3 c = search needs
+
+part-swept-start-3 : tie.Need-part-swept-start-3
+part-swept-start-3 c = search needs
+
+part-swept-end-3 : tie.Need-part-swept-end-3
+part-swept-end-3 c = search needs
+
+slice-aggregate-swept-3 : tie.Need-slice-aggregate-swept-3
+slice-aggregate-swept-3 c = search needs
+
+slice-aggregate-swept-4 : tie.Need-slice-aggregate-swept-4
+slice-aggregate-swept-4 c = search needs
+
+-- from the columns of a cardinality back to its order by begin
+abbrev ordered : tie.After-hi4 → tie.After-order8
+ordered c = c .before .before .before .before .before
+
+swept-requires-2 : tie.Need-swept-requires-2
+swept-requires-2 c κs =
+    let o = ordered c in
+    let m = o .before .before .pick2 in
+    let t = four o in
+    let h = high-laid (t .before) in
+    let l = low-laid (left h .before) in
+    let a = after-pick l in
+    let p = entry (termed a) .pre in
+    let k = a .pick in
     let g = p .2 .2 in
-    (p .2 .0, p .2 .1, _, _, swept-of _ _ _ _ _ _ _ _ _ _ _ _ _ _ _ g _ _ _ _ _ (p .1) (t .terms .ensures) (lined-of _ _ _ _ _ _ _ _ _ _ _ _ _ _ _ g _ _ (l .lay-low .ensures .1) (h .lay-high .ensures .1) (search needs) (search needs)), g .classes, size-of _ _ _ _ _ _ _ _ _ _ _ _ _ _ _ g)
+    (p .2 .0, p .2 .1, _, swept-ends _ _ _ _ _ _ _ _ _ _ _ _ _ _ _ g _ _ (marked-read a .read-marks .ensures) _ _ (k .ensures .2) (k .ensures .1) _ (search needs) (l .lay-low .ensures .1) _ (search needs) (h .lay-high .ensures .1) _ _ (m .ensures .2) (m .ensures .1) _ _ _ (p .1) (termed a .terms .ensures) (marked-read a .before .asked .ensures), g .classes, size-of _ _ _ _ _ _ _ _ _ _ _ _ _ _ _ g)
 
 returns-3 : tie.Need-returns-3
 returns-3 c =
-    let e = c .before .before .before in
-    let h = laid (e .before .before .before) in
-    let l = low-laid h in
-    let t = termed l in
-    let p = entry t .pre in
-    λ doc q g.
-    c .in-windows .ensures doc q _ _ (swept-of _ _ _ _ _ _ _ _ _ _ _ _ _ _ _ g _ _ _ _ _ (p .1) (t .terms .ensures) (lined-of _ _ _ _ _ _ _ _ _ _ _ _ _ _ _ g _ _ (l .lay-low .ensures .1) (h .lay-high .ensures .1) (search needs) (search needs))) (g .classes) (size-of _ _ _ _ _ _ _ _ _ _ _ _ _ _ _ g) (ne-eqb _ 0 (e .before .before .if1 .left))
-    (λ k. omega (arith, e .if2 .left))
+    let o = ordered (c .before) in
+    let m = o .before .before .pick2 in
+    let t = four o in
+    let h = high-laid (t .before) in
+    let l = low-laid (left h .before) in
+    let a = after-pick l in
+    let p = entry (termed a) .pre in
+    let k = a .pick in
+    let z = entry (termed a) .args .rule in
+    λ doc q g. c .swept2 .ensures doc q _ (swept-ends _ _ _ _ _ _ _ _ _ _ _ _ _ _ _ g _ _ (marked-read a .read-marks .ensures) _ _ (k .ensures .2) (k .ensures .1) _ (search needs) (l .lay-low .ensures .1) _ (search needs) (h .lay-high .ensures .1) _ _ (m .ensures .2) (m .ensures .1) _ _ _ (p .1) (termed a .terms .ensures) (marked-read a .before .asked .ensures)) (g .classes) (size-of _ _ _ _ _ _ _ _ _ _ _ _ _ _ _ g) (unstepped (z .windowed) (z .kind) (left h .if1 .left))
 
 pub soonest-spec : {M : Type 1} → statement M
 soonest-spec =
     tie.close
     (tie.spec
     terms-requires
+    asked-requires
+    read-marks-requires
+    slice-aggregate-pick
+    slice-aggregate-pick-2
+    pick-requires
+    sub-lay-low
+    part-lay-low-start
+    part-lay-low-end
     slice-aggregate-lay-low
     lay-low-requires
-    slice-aggregate-lay-high
-    lay-high-requires
-    slice-aggregate-on-days
-    slice-aggregate-on-days-2
-    on-days-requires
-    returns
+    sub-reaching
+    part-reaching-start
+    part-reaching-end
     reaching-requires
+    sub-least
+    part-least-start
+    part-least-end
     slice-aggregate-least
     slice-aggregate-least-2
     least-requires
+    returns
+    sub-lay-high
+    part-lay-high-start
+    part-lay-high-end
+    slice-aggregate-lay-high
+    lay-high-requires
+    sub-swept
+    part-swept-start
+    part-swept-end
+    slice-aggregate-swept
+    slice-aggregate-swept-2
+    swept-requires
     returns-2
-    slice-aggregate-in-windows
-    slice-aggregate-in-windows-2
-    in-windows-requires
+    slice-aggregate-pick-3
+    slice-aggregate-pick-4
+    pick-requires-2
+    sub-swept-2
+    part-swept-start-2
+    part-swept-end-2
+    sub-swept-3
+    part-swept-start-3
+    part-swept-end-3
+    slice-aggregate-swept-3
+    slice-aggregate-swept-4
+    swept-requires-2
     returns-3)

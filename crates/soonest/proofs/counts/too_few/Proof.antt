@@ -1,5 +1,5 @@
--- `soonest::counts::too_few` meets its contract: none of what a marked record demands is a gap.
-use Rattle.soonest.proofs.Using.{given-gap, few-by, few-none, few-first}
+-- `soonest::counts::too_few` meets its contract: fewer than none are nowhere, and fewer than one are none.
+use Rattle.soonest.proofs.Using.{few-none}
 use borrow.Author.Needs.{needs}
 use Rattle.soonest.proofs.counts.too_few.Statement.{statement}
 use Rattle.soonest.proofs.counts.too_few.Tie as tie
@@ -7,50 +7,17 @@ use Rattle.soonest.proofs.counts.too_few.Tie as tie
 returns : tie.Need-returns
 returns c = rw (c .if1 .taken) (few-none _ _ _ _ _ _ _ _)
 
+lacking-requires : tie.Need-lacking-requires
+lacking-requires c κs = search needs
+
 returns-2 : tie.Need-returns-2
-returns-2 c = few-first _ _ _ _ _ _ _ _
+returns-2 c = rw (c .before .if2 .taken) (c .lacking .ensures)
 
-demand-keys-requires : tie.Need-demand-keys-requires
-demand-keys-requires c κs = search needs
-
-slice-aggregate-gap : tie.Need-slice-aggregate-gap
-slice-aggregate-gap c = search needs
-
-slice-aggregate-gap-2 : tie.Need-slice-aggregate-gap-2
-slice-aggregate-gap-2 c = search needs
-
-slice-aggregate-gap-3 : tie.Need-slice-aggregate-gap-3
-slice-aggregate-gap-3 c = search needs
-
--- from the call of `gap` back to that of `demand-keys`
-abbrev after-demand : tie.After-need → tie.After-demand-keys
-after-demand c = c .before .before .before
-
--- from there back to the start
-abbrev entry : tie.After-demand-keys → tie.Start
-entry c = c .before .before .before .before .before .before .before .before .before
-
-gap-requires : tie.Need-gap-requires
-gap-requires c κs =
-    let d = after-demand c in
-    let p = entry d .pre in
-    given-gap _ _ _ _ (p .1) (d .demand-keys .ensures .room) (p .3) (search needs) (search needs)
+below-requires : tie.Need-below-requires
+below-requires c κs = search needs
 
 returns-3 : tie.Need-returns-3
-returns-3 c =
-    let d = after-demand (c .before .before .before) in
-    let p = entry d .pre in
-    rw (d .before .if2 .left) (few-by _ _ _ _ (p .1) _ _ _ _ _ (d .demand-keys .ensures) (p .4) (c .before .before .gap .ensures))
+returns-3 c = search needs
 
 pub too-few-spec : {M : Type 1} → statement M
-too-few-spec =
-    tie.close
-    (tie.spec
-    returns
-    returns-2
-    demand-keys-requires
-    slice-aggregate-gap
-    slice-aggregate-gap-2
-    slice-aggregate-gap-3
-    gap-requires
-    returns-3)
+too-few-spec = tie.close (tie.spec returns lacking-requires returns-2 below-requires returns-3)

@@ -4,8 +4,8 @@ use borrow.Author.Needs.{needs}
 use Rattle.soonest.proofs.in_windows.key.Statement.{statement}
 use Rattle.soonest.proofs.in_windows.key.Tie as tie
 
-too-few-requires : tie.Need-too-few-requires
-too-few-requires c κs = search needs
+lacking-requires : tie.Need-lacking-requires
+lacking-requires c κs = search needs
 
 shared-requires : tie.Need-shared-requires
 shared-requires c κs = search needs
@@ -16,7 +16,7 @@ sooner-requires c κs = search needs
 returns : tie.Need-returns
 returns c =
     let s = c .sooner .ensures in
-    (few-earlier _ _ _ _ (s .0) _ _ _ _ (c .before .before .too-few .ensures), shared-earlier _ _ _ _ (s .1) _ _ _ (c .before .shared .ensures))
+    (few-earlier _ _ _ _ (s .0) _ _ _ _ (c .before .before .lacking .ensures), shared-earlier _ _ _ _ (s .1) _ _ _ (c .before .shared .ensures))
 
 pub key-spec : {M : Type 1} → statement M
-key-spec = tie.close (tie.spec too-few-requires shared-requires sooner-requires returns)
+key-spec = tie.close (tie.spec lacking-requires shared-requires sooner-requires returns)

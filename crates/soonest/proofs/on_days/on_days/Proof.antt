@@ -29,7 +29,7 @@ reference-requires c κs =
 returns-2 : tie.Need-returns-2
 returns-2 c =
     let u = c .reference .ensures in
-    λ doc q r places s e k. reference-found doc q r places _ _ _ _ _ _ _ _ _ _ _ s k _ _ e (c .before .if2 .taken) (u .0) (u .1) (u .2)
+    λ doc q r places s e k. reference-found doc q r places _ _ _ _ _ _ _ _ _ _ _ s k _ _ e (c .before .if2 .taken) (u .0) (u .1)
 
 least-requires : tie.Need-least-requires
 least-requires c κs =
@@ -54,7 +54,7 @@ cardinality-requires : tie.Need-cardinality-requires
 cardinality-requires c κs =
     let p = entry (known (c .before .before)) .pre in
     let m = rooms _ _ _ _ _ _ _ _ _ _ _ _ _ _ _ (p .4) _ (p .5) in
-    (m .few, m .ground, m .chosen-room, m .rows-room, numbered-small _ _ (c .before .before .numbered .ensures), m .opens, m .ends)
+    (m .few, m .ground, m .chosen-room, m .rows-room, numbered-small _ _ (c .before .before .numbered .ensures), m .opens, m .ends (c .before .if4 .taken))
 
 returns-4 : tie.Need-returns-4
 returns-4 c =
