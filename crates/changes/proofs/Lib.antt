@@ -1,6 +1,4 @@
--- The laws behind the marks on days and the walk along two orders.
-pub mod Turning
-pub mod Columns
+-- The laws behind the walk along two orders.
 pub mod Spans
 pub mod Merged
 pub mod Tallied

@@ -1,3 +1,8 @@
--- The laws behind the verdict on one rule.
+-- The laws behind the verdict on one rule: `Verdicts` puts together what `DayVerdict` and `WindowVerdict` give.
 pub mod Modes
-pub mod Joining
+pub mod DayVerdict
+pub mod WindowVerdict
+pub mod Verdicts
+pub mod Stops
+pub mod Gathering
+pub mod Counting

@@ -1,26 +1,42 @@
-// The verdict on one rule over the columns of a document: on days or in windows, as the rule says.
+// The verdict on one rule over the columns of a document: the soonest of its places, days or windows, that has an offender.
 use meaning::Rule;
 use meaning::Verdict;
 use numbers::index;
+use places::Places;
+use walking::Stop;
 ghost use mathlib.Core.Path.{_≡_};
 ghost use mathlib.Core.Bool.{true, _||_};
-ghost use Prim.Native.Nat.{_-_};
-ghost use lib.ListN.{take};
+ghost use Prim.Native.Nat.{ℕ, _-_, _≤_, _<_};
+ghost use lib.ListN.{length, take};
+ghost use Rattle.calendar.specs.Entries.{MonthTable};
 ghost use Rattle.meaning.specs.declared.Rule.{Rule};
-ghost use Rattle.meaning.specs.Document.{Doc};
+ghost use Rattle.meaning.specs.Document.{Doc, isVersion};
 ghost use Rattle.meaning.specs.Rules.{isKey, isUnique, isReference, isSequenced, ruleFields};
-ghost use Rattle.meaning.specs.Day.{onDays};
 ghost use Rattle.meaning.specs.Answer.{judged};
-ghost use Rattle.columns.specs.Lent.{Tree, Values, Periods, Whole, Fronts};
+ghost use Rattle.columns.specs.Lent.{Periods, Whole, Fronts};
 ghost use Rattle.columns.specs.Judgeable.{Judgeable};
 ghost use Rattle.values.specs.Represents.{Represents};
+ghost use Rattle.orders.specs.Order.{InOrder};
 ghost use Rattle.survey.specs.Surveyed.{Surveyed};
-ghost use Rattle.days.specs.Judging.{NoneBefore as NoDayBefore};
-ghost use Rattle.judging.specs.Knowing.{Knowable, Known, Readable};
+ghost use Rattle.places.specs.Placing.{Counted, Placed};
+ghost use Rattle.soonest.specs.Given.{Given};
+ghost use Rattle.soonest.specs.Soon.{Soon};
+ghost use Rattle.judging.specs.Knowing.{Known};
+ghost use Rattle.judging.specs.Stopping.{Stopped};
+ghost use Rattle.judging.specs.Tally.{countOf, Traced};
 
-// How many places of rule r, from the first on, are known to have no offender: none where the orders are not sound. What the rule picks out is in
-// `chosen` and `row`, and in `other` the rows of the rule that it refers to, if it is a reference. Cost: as `soonest::soonest`.
-fn known<'a>(
+mod walking; // walking.rt: the walk over the places, from one of them on
+
+// What is found of a rule: the verdict, and how many of its places were looked into for it. One is enough where the rule fails and none where it
+// holds; more say that the soonest place was a false alarm, which costs time and is never a wrong answer.
+pub struct Judged {
+    pub verdict: Verdict,
+    pub looked: usize,
+}
+
+// The number of the soonest place at which rule r can fail: at no place before it does a version offend. What the rule picks out is in `chosen` and
+// `row`, and in `other` the rows of the rule that it refers to, if it is a reference. Cost: as `soonest::soonest`.
+fn soonest_place<'a>(
     vkind: &[u8],
     value: &[i32],
     begin: &[u16],
@@ -29,122 +45,17 @@ fn known<'a>(
     group: &[u16],
     opens: &[u16],
     closes: &[u16],
-    many: usize,
-    sound: bool,
     chosen: &'a [u8],
     row: &'a [u16],
     other: &[u16],
+    table: &[u16; 1201],
+    at: Places,
     r: Rule,
 ) -> usize
-    requires { ⌜ (ruleFields r ≡ true) × ((doc : Doc) × (q : Rule) × Knowable doc q r (now vkind) (now value) (now begin) (now end) (now rep) (now group) (now opens) (now closes) many sound (now chosen) (now row) (now other)) ⌝ }
-    ensures { λ x. ⌜ ((doc : Doc) → (q : Rule) → Knowable doc q r (now (vkind .entry)) (now (value .entry)) (now (begin .entry)) (now (end .entry)) (now (rep .entry)) (now (group .entry)) (now (opens .entry)) (now (closes .entry)) many sound (now (chosen .entry)) (now (row .entry)) (now (other .entry)) → Known doc q r x) ⌝ }
+    requires { ⌜ MonthTable (now table) × (ruleFields r ≡ true) × ((doc : Doc) × (q : Rule) × Given doc q r at (now vkind) (now value) (now begin) (now end) (now rep) (now group) (now opens) (now closes) (now chosen) (now row) (now other)) ⌝ }
+    ensures { λ x. ⌜ ((doc : Doc) → (q : Rule) → Given doc q r at (now (vkind .entry)) (now (value .entry)) (now (begin .entry)) (now (end .entry)) (now (rep .entry)) (now (group .entry)) (now (opens .entry)) (now (closes .entry)) (now (chosen .entry)) (now (row .entry)) (now (other .entry)) → Soon doc q r at x) ⌝ }
 {
-    if !sound {
-        return 0;
-    }
-    let table = calendar::starts();
-    let at = places::places_of(&table, r);
-    let place = soonest::soonest(
-        vkind,
-        value,
-        begin,
-        end,
-        rep,
-        group,
-        &opens[0..many],
-        &closes[0..many],
-        chosen,
-        row,
-        other,
-        &table,
-        at,
-        r,
-    );
-    index(place)
-}
-
-// The verdict on the sequenced rule r, of which so many days are known: on one day where the orders are sound, else by the marks of its change days.
-fn judge_days(
-    kind: &[u8],
-    vkind: &[u8],
-    name: &[u16],
-    parent: &[u16],
-    begin: &[u16],
-    end: &[u16],
-    value: &[i32],
-    rep: &[u16],
-    opens: &[u16],
-    closes: &[u16],
-    many: usize,
-    sound: bool,
-    own_read: &[u8],
-    held_read: &[u8],
-    q: Rule,
-    r: Rule,
-    sure: usize,
-) -> Verdict
-    requires { ⌜ (ruleFields r ≡ true) × (isReference r ≡ true → (ruleFields q ≡ true) × ((isKey q || isUnique q) ≡ true)) × ((doc : Doc) × Tree doc (now kind) (now name) (now parent) × Values doc (now kind) (now vkind) (now value) × Periods doc (now begin) (now end) × Represents doc (now rep) × Judgeable doc × Readable doc q r (now begin) (now end) (now opens) (now closes) many sound (now «own_read») (now «held_read»)) ⌝ }
-    ensures { λ x. ⌜ ((doc : Doc) → (p : Rule) → Tree doc (now (kind .entry)) (now (name .entry)) (now (parent .entry)) → Values doc (now (kind .entry)) (now (vkind .entry)) (now (value .entry)) → Periods doc (now (begin .entry)) (now (end .entry)) → Represents doc (now (rep .entry)) → Judgeable doc → Readable doc p r (now (begin .entry)) (now (end .entry)) (now (opens .entry)) (now (closes .entry)) many sound (now («own_read» .entry)) (now («held_read» .entry)) → isSequenced r ≡ true → (isReference r ≡ true → p ≡ q) → NoDayBefore doc p r sure → x ≡ onDays doc p r) ⌝ }
-{
-    if !sound {
-        return days::verdict(
-            kind,
-            vkind,
-            name,
-            parent,
-            begin,
-            end,
-            value,
-            rep,
-            q,
-            r,
-            sure,
-        );
-    }
-    days::known::verdict_known(
-        kind,
-        vkind,
-        name,
-        parent,
-        begin,
-        end,
-        value,
-        rep,
-        &opens[0..many],
-        &closes[0..many],
-        own_read,
-        held_read,
-        q,
-        r,
-        sure,
-    )
-}
-
-// The verdict on rule r, which refers to q if it is a reference: what is known beforehand to have no offender is not looked at.
-fn judge_columns(
-    kind: &[u8],
-    vkind: &[u8],
-    name: &[u16],
-    parent: &[u16],
-    begin: &[u16],
-    end: &[u16],
-    value: &[i32],
-    item: &[u32],
-    rep: &[u16],
-    group: &[u16],
-    opens: &[u16],
-    closes: &[u16],
-    many: usize,
-    sound: bool,
-    q: Rule,
-    r: Rule,
-) -> Verdict
-    requires { ⌜ (ruleFields r ≡ true) × (isReference r ≡ true → (ruleFields q ≡ true) × ((isKey q || isUnique q) ≡ true)) × ((doc : Doc) × Whole doc (now kind) (now vkind) (now name) (now parent) (now begin) (now end) (now value) (now item) × Surveyed doc (now begin) (now end) (now rep) (now group) (now opens) (now closes) many sound) ⌝ }
-    ensures { λ x. ⌜ ((doc : Doc) → (p : Rule) → Whole doc (now (kind .entry)) (now (vkind .entry)) (now (name .entry)) (now (parent .entry)) (now (begin .entry)) (now (end .entry)) (now (value .entry)) (now (item .entry)) → Surveyed doc (now (begin .entry)) (now (end .entry)) (now (rep .entry)) (now (group .entry)) (now (opens .entry)) (now (closes .entry)) many sound → (isReference r ≡ true → p ≡ q) → x ≡ judged doc p r) ⌝ }
-{
-    let own = prepare::sift(kind, vkind, name, parent, value, r);
-    let held = prepare::sift_referred(kind, vkind, name, parent, value, own, q, r);
-    let sure = known(
+    index(soonest::soonest(
         vkind,
         value,
         begin,
@@ -153,35 +64,146 @@ fn judge_columns(
         group,
         opens,
         closes,
-        many,
-        sound,
+        chosen,
+        row,
+        other,
+        table,
+        at,
+        r,
+    ))
+}
+
+// The count that a verdict tells: how many change days rule r has before day `past`, or the windows given if it is not sequenced. Cost: a look at
+// each position of both orders, and two more for each change day; none for windows.
+fn count_to(
+    begin: &[u16],
+    end: &[u16],
+    opens: &[u16],
+    closes: &[u16],
+    own_read: &[u8],
+    held_read: &[u8],
+    r: Rule,
+    windows: usize,
+    past: usize,
+) -> usize
+    requires { ⌜ (isSequenced r ≡ true → r .begin < past) × (past ≤ 36525) × ((doc : Doc) × (q : Rule) × Periods doc (now begin) (now end) × Traced doc q r (now opens) (now closes) (now «own_read») (now «held_read»)) ⌝ }
+    ensures { λ x. ⌜ ((doc : Doc) → (q : Rule) → Periods doc (now (begin .entry)) (now (end .entry)) → Traced doc q r (now (opens .entry)) (now (closes .entry)) (now («own_read» .entry)) (now («held_read» .entry)) → x ≡ countOf doc q r windows past) ⌝ }
+{
+    if r.windowed == 0 {
+        return changes::merging::count_changes(
+            opens,
+            closes,
+            begin,
+            end,
+            own_read,
+            r.kind == 3,
+            held_read,
+            r.begin,
+            past as u16,
+        );
+    }
+    windows
+}
+
+// The verdict by where the walk over the places of rule r stopped, with its count. Cost: that of the count.
+fn tell(
+    begin: &[u16],
+    end: &[u16],
+    opens: &[u16],
+    closes: &[u16],
+    own_read: &[u8],
+    held_read: &[u8],
+    at: Places,
+    r: Rule,
+    stop: Stop,
+) -> Verdict
+    requires { ⌜ (ruleFields r ≡ true) × Placed r at × Counted at × ((doc : Doc) × (q : Rule) × (k : ℕ) × Periods doc (now begin) (now end) × Judgeable doc × Traced doc q r (now opens) (now closes) (now «own_read») (now «held_read») × Stopped doc q r at k stop) ⌝ }
+    ensures { λ x. ⌜ ((doc : Doc) → (q : Rule) → (k : ℕ) → Periods doc (now (begin .entry)) (now (end .entry)) → Judgeable doc → Traced doc q r (now (opens .entry)) (now (closes .entry)) (now («own_read» .entry)) (now («held_read» .entry)) → Soon doc q r at k → Stopped doc q r at k stop → x ≡ judged doc q r) ⌝ }
+{
+    if let Stop::Here(here, v) = stop {
+        let count = count_to(
+            begin,
+            end,
+            opens,
+            closes,
+            own_read,
+            held_read,
+            r,
+            here.number + 1,
+            here.to,
+        );
+        return Verdict::Fails(here.from, v, count);
+    }
+    let count = count_to(
+        begin,
+        end,
+        opens,
+        closes,
+        own_read,
+        held_read,
+        r,
+        at.count,
+        at.close,
+    );
+    Verdict::Holds(count)
+}
+
+// How many places were looked into by a walk from number `first` on that stopped there. Nothing hangs on it, and nothing is promised of it.
+fn looks(at: Places, first: usize, stop: Stop) -> usize {
+    if at.count <= first {
+        return 0;
+    }
+    if let Stop::Here(here, _v) = stop {
+        if here.number < at.count {
+            if first <= here.number {
+                return here.number + 1 - first;
+            }
+        }
+    }
+    at.count - first
+}
+
+// The verdict on rule r, which refers to q if it is a reference: from the soonest place at which it can fail on, the places are walked.
+// Cost: what the rule picks out, the soonest place, the walk from there on, and the count.
+fn judge_columns(
+    kind: &[u8],
+    vkind: &[u8],
+    name: &[u16],
+    parent: &[u16],
+    begin: &[u16],
+    end: &[u16],
+    value: &[i32],
+    rep: &[u16],
+    group: &[u16],
+    opens: &[u16],
+    closes: &[u16],
+    q: Rule,
+    r: Rule,
+) -> Judged
+    requires { ⌜ (ruleFields r ≡ true) × (isReference r ≡ true → (ruleFields q ≡ true) × ((isKey q || isUnique q) ≡ true)) × ((doc : Doc) × Known doc (now kind) (now vkind) (now name) (now parent) (now begin) (now end) (now value) (now group) (now closes) × Represents doc (now rep) × InOrder (isVersion doc) (now begin) (now opens) (length (now opens))) ⌝ }
+    ensures { λ x. ⌜ ((doc : Doc) → (p : Rule) → Known doc (now (kind .entry)) (now (vkind .entry)) (now (name .entry)) (now (parent .entry)) (now (begin .entry)) (now (end .entry)) (now (value .entry)) (now (group .entry)) (now (closes .entry)) → Represents doc (now (rep .entry)) → InOrder (isVersion doc) (now (begin .entry)) (now (opens .entry)) (length (now (opens .entry))) → (isReference r ≡ true → p ≡ q) → x .verdict ≡ judged doc p r) ⌝ }
+{
+    let table = calendar::starts();
+    let at = places::places_of(&table, r);
+    let own = prepare::sift(kind, vkind, name, parent, value, r);
+    let held = prepare::sift_referred(kind, vkind, name, parent, value, own, q, r);
+    let first = soonest_place(
+        vkind,
+        value,
+        begin,
+        end,
+        rep,
+        group,
+        opens,
+        closes,
         &own.chosen,
         &own.row,
         &held.row,
+        &table,
+        at,
         r,
     );
-    if r.windowed == 0 {
-        return judge_days(
-            kind,
-            vkind,
-            name,
-            parent,
-            begin,
-            end,
-            value,
-            rep,
-            opens,
-            closes,
-            many,
-            sound,
-            &own.read,
-            &held.read,
-            q,
-            r,
-            sure,
-        );
-    }
-    windows::verdict(
+    let stop = walking::stop_from(
         kind,
         vkind,
         name,
@@ -189,12 +211,28 @@ fn judge_columns(
         begin,
         end,
         value,
-        group,
         rep,
+        group,
+        closes,
+        &table,
+        at,
+        first,
         q,
         r,
-        sure,
-    )
+    );
+    let verdict = tell(
+        begin,
+        end,
+        opens,
+        closes,
+        &own.read,
+        &held.read,
+        at,
+        r,
+        stop,
+    );
+    let looked = looks(at, first, stop);
+    Judged { verdict, looked }
 }
 
 // The same over the first n entries of the columns, with the survey of the document that they hold.
@@ -213,12 +251,11 @@ pub fn judge_front(
     opens: &[u16],
     closes: &[u16],
     many: usize,
-    sound: bool,
     q: Rule,
     r: Rule,
-) -> Verdict
-    requires { ⌜ (ruleFields r ≡ true) × (isReference r ≡ true → (ruleFields q ≡ true) × ((isKey q || isUnique q) ≡ true)) × ((f : Fronts n (now kind) (now vkind) (now name) (now parent) (now begin) (now end) (now value) (now item)) × Surveyed (f .doc) (take (n - 0) (now begin)) (take (n - 0) (now end)) (now rep) (now group) (now opens) (now closes) many sound) ⌝ }
-    ensures { λ x. ⌜ ((doc : Doc) → (p : Rule) → Whole doc (take (n - 0) (now (kind .entry))) (take (n - 0) (now (vkind .entry))) (take (n - 0) (now (name .entry))) (take (n - 0) (now (parent .entry))) (take (n - 0) (now (begin .entry))) (take (n - 0) (now (end .entry))) (take (n - 0) (now (value .entry))) (take (n - 0) (now (item .entry))) → Surveyed doc (take (n - 0) (now (begin .entry))) (take (n - 0) (now (end .entry))) (now (rep .entry)) (now (group .entry)) (now (opens .entry)) (now (closes .entry)) many sound → (isReference r ≡ true → p ≡ q) → x ≡ judged doc p r) ⌝ }
+) -> Judged
+    requires { ⌜ (ruleFields r ≡ true) × (isReference r ≡ true → (ruleFields q ≡ true) × ((isKey q || isUnique q) ≡ true)) × ((f : Fronts n (now kind) (now vkind) (now name) (now parent) (now begin) (now end) (now value) (now item)) × Surveyed (f .doc) (take (n - 0) (now begin)) (take (n - 0) (now end)) (now rep) (now group) (now opens) (now closes) many) ⌝ }
+    ensures { λ x. ⌜ ((doc : Doc) → (p : Rule) → Whole doc (take (n - 0) (now (kind .entry))) (take (n - 0) (now (vkind .entry))) (take (n - 0) (now (name .entry))) (take (n - 0) (now (parent .entry))) (take (n - 0) (now (begin .entry))) (take (n - 0) (now (end .entry))) (take (n - 0) (now (value .entry))) (take (n - 0) (now (item .entry))) → Surveyed doc (take (n - 0) (now (begin .entry))) (take (n - 0) (now (end .entry))) (now (rep .entry)) (now (group .entry)) (now (opens .entry)) (now (closes .entry)) many → (isReference r ≡ true → p ≡ q) → x .verdict ≡ judged doc p r) ⌝ }
 {
     judge_columns(
         &kind[0..n],
@@ -228,13 +265,10 @@ pub fn judge_front(
         &begin[0..n],
         &end[0..n],
         &value[0..n],
-        &item[0..n],
         rep,
         group,
-        opens,
-        closes,
-        many,
-        sound,
+        &opens[0..many],
+        &closes[0..many],
         q,
         r,
     )

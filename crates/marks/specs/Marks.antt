@@ -2,8 +2,7 @@
 use mathlib.Core.Path.{_≡_}
 use mathlib.Core.Bool.{Bool}
 use mathlib.Core.List.{List}
-use Prim.Native.Nat.{ℕ, zero, suc, _+_, _-_, _≤_, _<_}
-use lib.Bits.{bitOr}
+use Prim.Native.Nat.{ℕ, _-_, _≤_, _<_}
 use lib.Dec.{eqb}
 use lib.ListN.{length, getD}
 use Rattle.meaning.specs.Walk.{first, onFound}
@@ -11,12 +10,6 @@ use Rattle.meaning.specs.Walk.{first, onFound}
 -- number i is marked
 abbrev pub marked : List ℕ → ℕ → Bool
 marked marks i = eqb (getD marks i 0) 1
-
--- the bytes of the n numbers from i on, joined: 0 only where each of them is
-abbrev pub joined : List ℕ → ℕ → ℕ → ℕ
-joined marks i zero = 0
-joined marks i (suc zero) = getD marks i 0
-joined marks i (suc (suc n)) = bitOr (joined marks i (suc n)) (getD marks (i + suc n) 0)
 
 -- of the numbers below n those are marked that pass
 pub record Marks (passes : ℕ → Bool) (n : ℕ) (marks : List ℕ) : Type 0 where

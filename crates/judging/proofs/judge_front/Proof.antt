@@ -1,5 +1,6 @@
 -- `judging::judge_front` meets its contract: the first n entries of the columns are a document that can be judged, and the survey is its.
 use borrow.Author.Needs.{needs}
+use Rattle.judging.proofs.Gathering.{known, opened}
 use Rattle.judging.proofs.judge_front.Statement.{statement}
 use Rattle.judging.proofs.judge_front.Tie as tie
 
@@ -75,18 +76,28 @@ part-judge-columns-start-8 c = search needs
 part-judge-columns-end-8 : tie.Need-part-judge-columns-end-8
 part-judge-columns-end-8 c = search needs
 
+sub-judge-columns-9 : tie.Need-sub-judge-columns-9
+sub-judge-columns-9 c = search needs
+
+part-judge-columns-start-9 : tie.Need-part-judge-columns-start-9
+part-judge-columns-start-9 c = search needs
+
+part-judge-columns-end-9 : tie.Need-part-judge-columns-end-9
+part-judge-columns-end-9 c = search needs
+
 -- from the columns that are lent back to the start
-abbrev start : tie.After-judge-columns-arg8 → tie.Start
-start c = c .before .before .before .before .before .before .before .before .before .before .before .before .before .before .before .before .before .before .before
+abbrev start : tie.After-judge-columns-arg9 → tie.Start
+start c = c .before .before .before .before .before .before .before .before .before .before .before .before .before .before .before .before .before .before .before .before
 
 judge-columns-requires : tie.Need-judge-columns-requires
 judge-columns-requires c κs =
     let p = start c .pre in
     let f = p .2 .0 in
-    (p .0, p .1, (f .doc, f .whole, p .2 .1))
+    let s = p .2 .1 in
+    (p .0, p .1, (f .doc, known (f .whole) s, s .represents, opened (f .whole) s))
 
 returns : tie.Need-returns
-returns c = search needs
+returns c = λ doc p w s e. c .judge-columns .ensures doc p (known w s) (s .represents) (opened w s) e
 
 pub judge-front-spec : {M : Type 1} → statement M
 judge-front-spec =
@@ -116,5 +127,8 @@ judge-front-spec =
     sub-judge-columns-8
     part-judge-columns-start-8
     part-judge-columns-end-8
+    sub-judge-columns-9
+    part-judge-columns-start-9
+    part-judge-columns-end-9
     judge-columns-requires
     returns)

@@ -1,48 +1,57 @@
--- `marks::next_marked` meets its contract: it is the first number, or the next one from the second on.
-use mathlib.Core.Path.{sym, _∙_}
+-- `marks::next_marked` meets its contract: the next marked number from i on is the next one from `from` on.
+use mathlib.Core.Path.{_≡_, refl, sym, _∙_}
+use Prim.Native.Nat.{_-_}
+use native.Mathlib.Omega.{arith}
 use borrow.Author.Needs.{needs}
 use borrow.Author.Tests.{eq-eqb, ne-eqb}
+use Rattle.marks.specs.Marks.{marked, after}
 use Rattle.marks.proofs.After.{after-here, after-next, after-end}
 use Rattle.marks.proofs.next_marked.Statement.{statement}
 use Rattle.marks.proofs.next_marked.Tie as tie
 
-returns : tie.Need-returns
-returns c = sym (after-end _ _ _ (c .if1 .taken))
+abbrev Inv-loop : tie.InvT-loop
+Inv-loop marks from to i₀ i = after (marked marks) i to ≡ after (marked marks) from to
 
-shared-slice-read-if2 : tie.Need-shared-slice-read-if2
-shared-slice-read-if2 c = search needs
+abbrev μ-loop : tie.MeasureT-loop
+μ-loop marks from to i₀ i = to - i
 
-returns-2 : tie.Need-returns-2
-returns-2 c = sym (after-here _ _ _ (c .before .before .if1 .left) (eq-eqb _ 1 (c .if2 .taken)))
+loop-holds : tie.Need-loop-holds Inv-loop μ-loop
+loop-holds c = refl
 
-add-second : tie.Need-add-second
-add-second c = search needs
+shared-slice-read-if1 : tie.Need-shared-slice-read-if1 Inv-loop μ-loop
+shared-slice-read-if1 c = search needs
 
-returns-3 : tie.Need-returns-3
-returns-3 c =
-    let e = c .before in
-    sym (after-next _ _ _ (e .before .before .if1 .left) (ne-eqb _ 1 (e .if2 .left)) ∙ after-end _ _ _ (c .if3 .taken))
+returns : tie.Need-returns Inv-loop μ-loop
+returns c =
+    let s = c .before .before .before .loop in
+    sym (after-here _ _ (s .i) (omega arith) (eq-eqb _ 1 (c .if1 .taken))) ∙ s .inv
 
-past-clear-requires : tie.Need-past-clear-requires
-past-clear-requires c κs = search needs
+add-i : tie.Need-add-i Inv-loop μ-loop
+add-i c = search needs
 
-near-marked-requires : tie.Need-near-marked-requires
-near-marked-requires c κs = search needs
+loop-less : tie.Need-loop-less Inv-loop μ-loop
+loop-less c = search needs
 
-returns-4 : tie.Need-returns-4
-returns-4 c =
-    let e = c .before .before .before in
-    c .near-marked .ensures ∙ c .before .past-clear .ensures ∙ sym (after-next _ _ _ (e .before .before .if1 .left) (ne-eqb _ 1 (e .if2 .left)))
+loop-again : tie.Need-loop-again Inv-loop μ-loop
+loop-again c =
+    let s = c .before .before .before .loop in
+    sym (after-next _ _ (s .i) (omega arith) (ne-eqb _ 1 (c .if1 .left))) ∙ s .inv
+
+returns-2 : tie.Need-returns-2 Inv-loop μ-loop
+returns-2 c =
+    let s = c .before .loop in
+    sym (after-end _ _ (s .i) (omega arith)) ∙ s .inv
 
 pub next-marked-spec : {M : Type 1} → statement M
 next-marked-spec =
     tie.close
     (tie.spec
+    Inv-loop
+    μ-loop
+    loop-holds
+    shared-slice-read-if1
     returns
-    shared-slice-read-if2
-    returns-2
-    add-second
-    returns-3
-    past-clear-requires
-    near-marked-requires
-    returns-4)
+    add-i
+    loop-less
+    loop-again
+    returns-2)

@@ -1,26 +1,11 @@
--- `lists::turning::changes_columns` meets its contract: what the rule reads is marked, then its change days, and these are stored.
-use mathlib.Core.Path.{refl}
-use native.Mathlib.Omega.{arith}
-use Rattle.changes.proofs.Columns.{markable, each-day}
-use Rattle.changes.proofs.Spans.{steps-few, first-few, last-few, in-order}
-use Rattle.lists.proofs.Changing.{changes-answer, changes-lent}
+-- `lists::turning::changes_columns` meets its contract: what the rule reads is marked, the versions are sorted, and its change days are stored along them.
+use Rattle.changes.proofs.Spans.{steps-few}
+use Rattle.lists.proofs.Changing.{along}
 use borrow.Author.Needs.{needs}
 use Rattle.lists.proofs.turning.changes_columns.Statement.{statement}
 use Rattle.lists.proofs.turning.changes_columns.Tie as tie
 
--- from `store-marked-arg` back to the call of `mark-changes`
-abbrev after-mark-changes : tie.After-store-marked-arg → tie.After-mark-changes
-after-mark-changes c = c .before .before .before .before .before
-
--- from `slice-known2` back to the call of `read-referred`
-abbrev after-read-referred : tie.After-slice-known2 → tie.After-read-referred
-after-read-referred c = after-mark-changes (c .before .before .before) .before .before .before .before .before
-
--- from `days` back to the call of `mark-read`
-abbrev after-mark-read : tie.After-days → tie.After-mark-read
-after-mark-read c = c .before .before .before .before .before
-
--- from `slice-known` back to the start
+-- from what is known of the slices back to the start
 abbrev entry : tie.After-slice-known → tie.Start
 entry c = c .before .before .before .before .before .before
 
@@ -34,51 +19,54 @@ read-referred-requires c κs =
     let p = entry (c .before) .pre in
     (λ k. steps-few _ (p .1 k), (p .2 .0, p .2 .1, p .2 .3))
 
-slice-aggregate-mark-changes : tie.Need-slice-aggregate-mark-changes
-slice-aggregate-mark-changes c = search needs
+versions-by-requires : tie.Need-versions-by-requires
+versions-by-requires c κs = search needs
 
-slice-aggregate-mark-changes-2 : tie.Need-slice-aggregate-mark-changes-2
-slice-aggregate-mark-changes-2 c = search needs
+versions-by-requires-2 : tie.Need-versions-by-requires-2
+versions-by-requires-2 c κs = search needs
 
-slice-aggregate-mark-changes-3 : tie.Need-slice-aggregate-mark-changes-3
-slice-aggregate-mark-changes-3 c = search needs
+slice-aggregate-store-along : tie.Need-slice-aggregate-store-along
+slice-aggregate-store-along c = search needs
 
-mark-changes-requires : tie.Need-mark-changes-requires
-mark-changes-requires c κs =
-    let p = entry (after-mark-read c .before) .pre in
-    let own = after-mark-read c .mark-read .ensures (p .2 .0) (p .2 .1) in
-    let few = p .2 .3 .few in
-    markable (p .2 .2) (p .2 .3) (own .room) (search needs) (first-few _ (p .0))
+slice-aggregate-store-along-2 : tie.Need-slice-aggregate-store-along-2
+slice-aggregate-store-along-2 c = search needs
 
-slice-aggregate-store-marked : tie.Need-slice-aggregate-store-marked
-slice-aggregate-store-marked c = search needs
+slice-aggregate-store-along-3 : tie.Need-slice-aggregate-store-along-3
+slice-aggregate-store-along-3 c = search needs
 
-cast-store-marked : tie.Need-cast-store-marked
-cast-store-marked c = search needs
+slice-aggregate-store-along-4 : tie.Need-slice-aggregate-store-along-4
+slice-aggregate-store-along-4 c = search needs
 
-cast-store-marked-2 : tie.Need-cast-store-marked-2
-cast-store-marked-2 c = search needs
+-- from the arguments back to the second order
+abbrev sorted : tie.After-store-along-arg → tie.After-versions-by2
+sorted c = c .before .before .before .before .before .before .before
 
-store-marked-requires : tie.Need-store-marked-requires
-store-marked-requires c κs =
-    let p = entry (after-mark-read (after-mark-changes c .before) .before) .pre in
-    let few = last-few _ (p .0) in
-    (search needs, omega (arith, few), in-order _ (p .0))
+-- from there back to what the rule reads by itself
+abbrev read : tie.After-versions-by2 → tie.After-mark-read
+read c = c .before .before .before
+
+store-along-requires : tie.Need-store-along-requires
+store-along-requires c κs =
+    let s = sorted c in
+    let own = read s in
+    let p = entry (own .before) .pre in
+    let g = p .2 in
+    let few = g .3 .few in
+    (p .0, (g .0, along _ _ (g .1 .kind) (g .2) (s .before .versions-by .ensures .0) (s .versions-by2 .ensures .0), own .mark-read .ensures (g .0) (g .1) .room, search (needs, s .before .before .read-referred .ok)))
 
 same-length : tie.Need-same-length
 same-length c = search needs
 
 returns : tie.Need-returns
 returns c =
-    let start = entry (after-read-referred c .before .before) in
-    let a = start .args in
-    let f = start .pre .0 in
-    let own = after-read-referred c .before .mark-read .ensures in
-    let ref = after-read-referred c .read-referred .ensures in
-    let days = after-mark-changes (c .before .before .before) .mark-changes .ensures in
-    let s = c .before .before .store-marked in (
-      λ doc p t w k. changes-answer doc p (a .r) f _ (a .out .now) (each-day (days doc p (a .r) w (own doc t) refl (λ e. rw (k e) (ref doc t e)) refl)) (s .ensures .0),
-      λ doc p t w k. changes-lent doc p (a .r) f _ (a .out .now) (each-day (days doc p (a .r) w (own doc t) refl (λ e. rw (k e) (ref doc t e)) refl)) (s .result) _ (s .ensures .1),
+    let stored = c .before .before in
+    let s = sorted (stored .before) in
+    let own = read s .mark-read .ensures in
+    let ref = s .before .before .read-referred .ensures in
+    let begins = s .before .versions-by .ensures .0 in
+    let ends = s .versions-by2 .ensures .0 in (
+      λ doc p t w k. stored .store-along .ensures .0 doc p (along doc _ (t .kind) w begins ends) (own doc t) (λ e. rw (k e) (ref doc t e)),
+      λ doc p t w k. stored .store-along .ensures .1 doc p (along doc _ (t .kind) w begins ends) (own doc t) (λ e. rw (k e) (ref doc t e)),
     )
 
 pub changes-columns-spec : {M : Type 1} → statement M
@@ -87,13 +75,12 @@ changes-columns-spec =
     (tie.spec
     mark-read-requires
     read-referred-requires
-    slice-aggregate-mark-changes
-    slice-aggregate-mark-changes-2
-    slice-aggregate-mark-changes-3
-    mark-changes-requires
-    slice-aggregate-store-marked
-    cast-store-marked
-    cast-store-marked-2
-    store-marked-requires
+    versions-by-requires
+    versions-by-requires-2
+    slice-aggregate-store-along
+    slice-aggregate-store-along-2
+    slice-aggregate-store-along-3
+    slice-aggregate-store-along-4
+    store-along-requires
     same-length
     returns)

@@ -1,4 +1,0 @@
--- The laws behind the verdict on days.
-pub mod Walking
-pub mod Settling
-pub mod OneDay

@@ -1,0 +1,17 @@
+-- What the offenders of a rule's places are worked out from, on days and in windows.
+use mathlib.Core.Path.{_≡_}
+use mathlib.Core.Bool.{false}
+use mathlib.Core.List.{List}
+use Prim.Native.Nat.{ℕ}
+use Rattle.meaning.specs.declared.Rule.{Rule}
+use Rattle.meaning.specs.Document.{Doc}
+use Rattle.meaning.specs.Rules.{isSequenced}
+use Rattle.prepare.specs.declared.Prepared.{Prepared}
+use Rattle.day.specs.Settled.{Settled as SettledDay}
+use Rattle.window.specs.declared.layout.Layout.{Layout}
+use Rattle.window.specs.Settled.{Settled as SettledWindow}
+
+-- rule r, prepared, with the rule q that it refers to if it is a reference; and laid out for windows if it is not sequenced
+pub record Armed (doc : Doc) (q r : Rule) (own : Prepared) (laid : Layout) (held : Prepared) (begins ends reps groups : List ℕ) : Type 0 where
+  pub on-days : SettledDay doc q r own held begins ends reps
+  pub in-windows : isSequenced r ≡ false → SettledWindow doc q r laid held begins ends reps groups
