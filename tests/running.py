@@ -121,3 +121,9 @@ def over_cases(tops, files, check):
         print("".join(line + "\n" for line in wrong), end="")
     print(f"{passed} passed, {failed} failed")
     return 0 if failed == 0 and passed > 0 else 1
+
+
+def alarms(text):
+    """What `pairs` tells of a pair without its lines on false alarms, and these lines: rules for which more places were looked into than needed."""
+    lines = text.split("\n")
+    return "\n".join(line for line in lines if not line.startswith("alarm ")), [line for line in lines if line.startswith("alarm ")]

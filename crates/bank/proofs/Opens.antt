@@ -1,6 +1,5 @@
 -- What opened images are known to be: refused as both are read in turn, or both accepted, with the first one's document in the columns.
 use mathlib.Core.Path.{_≡_, refl, sym, ap, _∙_}
-use mathlib.Core.Bool.{Bool}
 use mathlib.Core.List.{List}
 use Prim.Native.Nat.{ℕ, _-_}
 use lib.ListN.{length, take}
@@ -89,10 +88,10 @@ module _ {nodes : List ℕ} (rules : List ℕ) {c : Columns} where
       open-fronts = fronts (o .columns) alone
 
       -- what a survey of every document in the fronts is, it is of this one
-      pub opened : {reps groups opens closes : List ℕ} {many : ℕ} {sound : Bool}
+      pub opened : {reps groups opens closes : List ℕ} {many : ℕ}
           → ((doc : Doc) → Values doc (take (n - 0) (c .kind)) (take (n - 0) (c .vkind)) (take (n - 0) (c .value)) → Periods doc (take (n - 0) (c .begin)) (take (n - 0) (c .end))
-          → Numbers doc (take (n - 0) (c .kind)) (take (n - 0) (c .parent)) (take (n - 0) (c .item)) → Surveyed doc (take (n - 0) (c .begin)) (take (n - 0) (c .end)) reps groups opens closes many sound)
-          → Open nodes rules n (c .kind) (c .vkind) (c .name) (c .parent) (c .begin) (c .end) (c .value) (c .item) reps groups opens closes many sound
+          → Numbers doc (take (n - 0) (c .kind)) (take (n - 0) (c .parent)) (take (n - 0) (c .item)) → Surveyed doc (take (n - 0) (c .begin)) (take (n - 0) (c .end)) reps groups opens closes many)
+          → Open nodes rules n (c .kind) (c .vkind) (c .name) (c .parent) (c .begin) (c .end) (c .value) (c .item) reps groups opens closes many
       opened s =
           let w = open-fronts .whole in
           record {

@@ -1,6 +1,5 @@
 -- Two images opened: what came of both, and the columns of the first; and what is asked of columns on which rules are judged.
 use mathlib.Core.Path.{_≡_}
-use mathlib.Core.Bool.{Bool}
 use mathlib.Core.List.{List}
 use Prim.Native.Nat.{ℕ, _-_}
 use lib.IntN.{ℤ}
@@ -30,9 +29,9 @@ pub record Opens (nodes rules : List ℕ) (c : Columns) : Type 0 where
   pub answer : tellLoaded (c .loaded) ≡ tellLoaded (loaded (andThen (readNodes nodes) (readRules rules)) (length (nodesOf nodes)))
 
 -- both images are accepted, the first n entries of the columns hold the records of the first, and they are surveyed
-pub record Open (nodes rules : List ℕ) (n : ℕ) (kinds vkinds names parents begins ends : List ℕ) (values : List ℤ) (items reps groups opens closes : List ℕ) (many : ℕ) (sound : Bool) : Type 0 where
+pub record Open (nodes rules : List ℕ) (n : ℕ) (kinds vkinds names parents begins ends : List ℕ) (values : List ℤ) (items reps groups opens closes : List ℕ) (many : ℕ) : Type 0 where
   pub accepted : readNodes nodes ≡ Accepted
   pub table : readRules rules ≡ Accepted
   pub fronts : Fronts n kinds vkinds names parents begins ends values items
   pub document : fronts .doc ≡ docOf nodes
-  pub surveyed : Surveyed (docOf nodes) (take (n - 0) begins) (take (n - 0) ends) reps groups opens closes many sound
+  pub surveyed : Surveyed (docOf nodes) (take (n - 0) begins) (take (n - 0) ends) reps groups opens closes many

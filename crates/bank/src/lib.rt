@@ -1,20 +1,15 @@
 // The public face of the checker: the slice of a day, the change days of a rule and the verdict on a rule, for every byte string; and a node image written from records, for all columns.
-use columns::Columns;
 use columns::Loaded;
 use meaning::Listed;
 use meaning::Output;
 use meaning::Verdict;
-ghost use mathlib.Core.Path.{_≡_};
-ghost use mathlib.Core.List.{List};
-ghost use Prim.Native.Nat.{ℕ};
-ghost use Rattle.columns.specs.declared.Loaded.the-variants.{Nodes};
 ghost use Rattle.meaning.specs.Lent.{lent};
 ghost use Rattle.writer.specs.Promise.{WritePromise};
-ghost use Rattle.bank.specs.Opening.{Opens};
 ghost use Rattle.bank.specs.Promises.{VerdictPromise, SlicePromise, ChangesPromise};
 
 pub mod opening; // opening.rt: images opened, once for any number of questions
 pub mod opened; // opened.rt: the answers over opened images
+pub mod looking; // looking.rt: the verdict, with how many places were looked into for it
 
 // The slice of a day, into a lent list: the records of the versions in the bank on that day, ascending, from the list's first entry on; or
 // refused, and the list stays as it was. Cost: reading the image, then three looks at each record.
@@ -30,8 +25,8 @@ pub fn slice(nodes: &[u8], day: usize, out: &mut [u16]) -> Listed
 }
 
 // The change days of a sequenced rule, into a lent list, ascending, from the list's first entry on; or refused, and the list stays as it was.
-// Cost: reading the images, three passes over the records for the rule, three more for the rule that a reference refers to, and two looks at
-// each day of the period.
+// Cost: reading the images, two sorted lists of the versions, three passes over the records for the rule, three more for the rule that a
+// reference refers to, a look at each position of both lists, and two more for each change day.
 pub fn change_days(nodes: &[u8], rules: &[u8], rule: usize, out: &mut [u16]) -> Listed
     ensures { λ r. ⌜ ChangesPromise (now (nodes .entry)) (now (rules .entry)) rule (now (out .entry)) r (now (out .exit)) ⌝ }
 {
@@ -43,56 +38,13 @@ pub fn change_days(nodes: &[u8], rules: &[u8], rule: usize, out: &mut [u16]) -> 
     }
 }
 
-// The verdict on a rule of opened images: 11 where there is no such rule; then the columns are surveyed.
-fn judge(columns: Columns, n: usize, rules: &[u8], rule: usize) -> Verdict
-    requires { ⌜ ((nodes : List ℕ) × Opens nodes (now rules) columns) × (columns .loaded ≡ Nodes n) ⌝ }
-    ensures { λ r. ⌜ ((nodes : List ℕ) → Opens nodes (now (rules .entry)) columns → VerdictPromise nodes (now (rules .entry)) rule r) ⌝ }
-{
-    if rules::count_rules(rules) <= rule {
-        return Verdict::Refused(11, 0);
-    }
-    let found = opened::survey(
-        n,
-        &columns.kind,
-        &columns.vkind,
-        &columns.parent,
-        &columns.begin,
-        &columns.end,
-        &columns.value,
-        &columns.item,
-    );
-    opened::verdict_of(
-        n,
-        &columns.kind,
-        &columns.vkind,
-        &columns.name,
-        &columns.parent,
-        &columns.begin,
-        &columns.end,
-        &columns.value,
-        &columns.item,
-        &found.rep,
-        &found.group,
-        &found.opens,
-        &found.closes,
-        found.many,
-        found.sound,
-        rules,
-        rule,
-    )
-}
-
 // The verdict on a rule: holds, with how many slices or windows were looked at; fails, with the first failing day or window start, the lowest
 // offending record and how many; or refused. Cost: reading both images, then the verdict on the rule.
 pub fn verdict(nodes: &[u8], rules: &[u8], rule: usize) -> Verdict
     ensures { λ r. ⌜ VerdictPromise (now (nodes .entry)) (now (rules .entry)) rule r ⌝ }
 {
-    let columns = opening::open(nodes, rules);
-    let loaded = columns.loaded;
-    match loaded {
-        Loaded::Refused(number, place) => Verdict::Refused(number, place),
-        Loaded::Nodes(n) => judge(columns, n, rules, rule),
-    }
+    let found = looking::judge(nodes, rules, rule);
+    found.verdict
 }
 
 // The records in the first `count` entries of eight lent columns, written as a node image from the first byte of a lent stretch on: how many

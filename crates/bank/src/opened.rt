@@ -1,7 +1,7 @@
 // The answers over opened images: what the calls on images, and a report on many rules, ask of columns and an accepted table.
 use columns::Columns;
+use judging::Judged;
 use meaning::Listed;
-use meaning::Verdict;
 use survey::Survey;
 ghost use mathlib.Core.Path.{_≡_};
 ghost use mathlib.Core.List.{List};
@@ -67,7 +67,7 @@ pub fn survey<'a>(
     item: &'a [u32],
 ) -> Survey
     requires { ⌜ (n ≤ length (now kind)) × (n ≤ length (now vkind)) × (n ≤ length (now parent)) × (n ≤ length (now begin)) × (n ≤ length (now end)) × (n ≤ length (now value)) × (n ≤ length (now item)) × ((doc : Doc) × Values doc (take (n - 0) (now kind)) (take (n - 0) (now vkind)) (take (n - 0) (now value)) × Periods doc (take (n - 0) (now begin)) (take (n - 0) (now end)) × Numbers doc (take (n - 0) (now kind)) (take (n - 0) (now parent)) (take (n - 0) (now item)) × Judgeable doc) ⌝ }
-    ensures { λ r. ⌜ ((doc : Doc) → Values doc (take (n - 0) (now (kind .entry))) (take (n - 0) (now (vkind .entry))) (take (n - 0) (now (value .entry))) → Periods doc (take (n - 0) (now (begin .entry))) (take (n - 0) (now (end .entry))) → Numbers doc (take (n - 0) (now (kind .entry))) (take (n - 0) (now (parent .entry))) (take (n - 0) (now (item .entry))) → Surveyed doc (take (n - 0) (now (begin .entry))) (take (n - 0) (now (end .entry))) (r .rep) (r .group) (r .opens) (r .closes) (r .many) (r .sound)) ⌝ }
+    ensures { λ r. ⌜ ((doc : Doc) → Values doc (take (n - 0) (now (kind .entry))) (take (n - 0) (now (vkind .entry))) (take (n - 0) (now (value .entry))) → Periods doc (take (n - 0) (now (begin .entry))) (take (n - 0) (now (end .entry))) → Numbers doc (take (n - 0) (now (kind .entry))) (take (n - 0) (now (parent .entry))) (take (n - 0) (now (item .entry))) → Surveyed doc (take (n - 0) (now (begin .entry))) (take (n - 0) (now (end .entry))) (r .rep) (r .group) (r .opens) (r .closes) (r .many)) ⌝ }
 {
     survey::survey_columns(
         &kind[0..n],
@@ -96,12 +96,11 @@ pub fn verdict_of<'a, 'b>(
     opens: &'b [u16],
     closes: &'b [u16],
     many: usize,
-    sound: bool,
     rules: &[u8],
     k: usize,
-) -> Verdict
-    requires { ⌜ (k < length (rulesOf (now rules))) × ((nodes : List ℕ) × Open nodes (now rules) n (now kind) (now vkind) (now name) (now parent) (now begin) (now end) (now value) (now item) (now rep) (now group) (now opens) (now closes) many sound) ⌝ }
-    ensures { λ x. ⌜ ((nodes : List ℕ) → Open nodes (now (rules .entry)) n (now (kind .entry)) (now (vkind .entry)) (now (name .entry)) (now (parent .entry)) (now (begin .entry)) (now (end .entry)) (now (value .entry)) (now (item .entry)) (now (rep .entry)) (now (group .entry)) (now (opens .entry)) (now (closes .entry)) many sound → VerdictPromise nodes (now (rules .entry)) k x) ⌝ }
+) -> Judged
+    requires { ⌜ (k < length (rulesOf (now rules))) × ((nodes : List ℕ) × Open nodes (now rules) n (now kind) (now vkind) (now name) (now parent) (now begin) (now end) (now value) (now item) (now rep) (now group) (now opens) (now closes) many) ⌝ }
+    ensures { λ x. ⌜ ((nodes : List ℕ) → Open nodes (now (rules .entry)) n (now (kind .entry)) (now (vkind .entry)) (now (name .entry)) (now (parent .entry)) (now (begin .entry)) (now (end .entry)) (now (value .entry)) (now (item .entry)) (now (rep .entry)) (now (group .entry)) (now (opens .entry)) (now (closes .entry)) many → VerdictPromise nodes (now (rules .entry)) k (x .verdict)) ⌝ }
 {
     let r = rules::rule_at(rules, k);
     let q = rules::referred_rule(rules, k);
@@ -120,7 +119,6 @@ pub fn verdict_of<'a, 'b>(
         opens,
         closes,
         many,
-        sound,
         q,
         r,
     )

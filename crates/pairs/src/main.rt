@@ -1,11 +1,13 @@
 // Reads pairs of images from `pairs.blk` of its folder and prints for each its report, two slices, the change days of two rules, the verdicts
-// on them, and whether the node image comes back when its records are written again. The test program of every public call, over many pairs
-// in one process. A pair is a header of 20 bytes and the two images (`tests/README.md`).
+// on them, whether the node image comes back when its records are written again, and each rule on which a false alarm was followed. The test
+// program of every public call, over many pairs in one process. A pair is a header of 20 bytes and the two images (`tests/README.md`).
 use columns::Columns;
 use columns::Loaded;
+use judging::Judged;
 use libc::STDOUT_FILENO;
 use meaning::Listed;
 use meaning::Output;
+use meaning::Verdict;
 ghost use Prim.Native.Nat.{_≤_};
 
 // The largest good images, and one byte more, so that a longer one is refused by its length.
@@ -135,6 +137,44 @@ fn write_verdict(nodes: &[u8], rules: &[u8], rule: usize) {
     write_line(&mut line, end);
 }
 
+// Whether a verdict took more looks than it needs: one place where the rule fails, none where it holds.
+fn alarmed(found: Judged) -> bool {
+    let verdict = found.verdict;
+    match verdict {
+        Verdict::Fails(_day, _record, _count) => found.looked != 1,
+        Verdict::Holds(_count) => found.looked != 0,
+        Verdict::Refused(_number, _place) => false,
+    }
+}
+
+// How many rules the table has room for.
+const RULES: usize = 10 * block::RULES.most;
+
+// The line of a false alarm: the rule's number, and how many places were looked into.
+fn write_alarm(rule: usize, looked: usize) {
+    let mut line = [0u8; LINE];
+    let named = spelling::put(&mut line, 0, b"alarm");
+    let at = spelling::put_next(&mut line, named, rule);
+    let end = spelling::put_next(&mut line, at, looked);
+    write_line(&mut line, end);
+}
+
+// The lines of all rules on which a false alarm was followed.
+fn write_alarms(nodes: &[u8], rules: &[u8]) {
+    let mut k = 0;
+    while k < RULES {
+        let found = bank::looking::judge(nodes, rules, k);
+        let verdict = found.verdict;
+        if let Verdict::Refused(_number, _place) = verdict {
+            return;
+        }
+        if alarmed(found) {
+            write_alarm(k, found.looked);
+        }
+        k += 1;
+    }
+}
+
 // Whether two stretches of bytes are the same.
 fn same(a: &[u8], b: &[u8]) -> bool {
     if a.len() != b.len() {
@@ -236,6 +276,7 @@ fn write_pair(number: usize, head: &[u8; 20], nodes: &[u8], rules: &[u8]) {
     write_verdict(nodes, rules, first);
     write_verdict(nodes, rules, second);
     write_again_in(nodes);
+    write_alarms(nodes, rules);
 }
 
 // Whether there was one more pair in the file, of images no longer than they may be; its lines are written.

@@ -35,10 +35,9 @@ fn put_rules<'a, 'b>(
     opens: &'b [u16],
     closes: &'b [u16],
     many: usize,
-    sound: bool,
 ) -> usize
-    requires { ⌜ ((nodes : List ℕ) × Open nodes (now rules) n (now kind) (now vkind) (now name) (now parent) (now begin) (now end) (now value) (now item) (now rep) (now group) (now opens) (now closes) many sound) ⌝ }
-    ensures { λ r. ⌜ ((nodes : List ℕ) → Open nodes (now (rules .entry)) n (now (kind .entry)) (now (vkind .entry)) (now (name .entry)) (now (parent .entry)) (now (begin .entry)) (now (end .entry)) (now (value .entry)) (now (item .entry)) (now (rep .entry)) (now (group .entry)) (now (opens .entry)) (now (closes .entry)) many sound → Puts (now (text .entry)) at (ruleLines (verdict nodes (now (rules .entry))) 0 (length (rulesOf (now (rules .entry))))) (now (text .exit)) r) ⌝ }
+    requires { ⌜ ((nodes : List ℕ) × Open nodes (now rules) n (now kind) (now vkind) (now name) (now parent) (now begin) (now end) (now value) (now item) (now rep) (now group) (now opens) (now closes) many) ⌝ }
+    ensures { λ r. ⌜ ((nodes : List ℕ) → Open nodes (now (rules .entry)) n (now (kind .entry)) (now (vkind .entry)) (now (name .entry)) (now (parent .entry)) (now (begin .entry)) (now (end .entry)) (now (value .entry)) (now (item .entry)) (now (rep .entry)) (now (group .entry)) (now (opens .entry)) (now (closes .entry)) many → Puts (now (text .entry)) at (ruleLines (verdict nodes (now (rules .entry))) 0 (length (rulesOf (now (rules .entry))))) (now (text .exit)) r) ⌝ }
 {
     let all = rules::count_rules(rules);
     let mut to = at;
@@ -59,11 +58,11 @@ fn put_rules<'a, 'b>(
             opens,
             closes,
             many,
-            sound,
             rules,
             k,
         );
-        to = spelling::lines::put_rule(text, to, k, found);
+        let verdict = found.verdict;
+        to = spelling::lines::put_rule(text, to, k, verdict);
         k += 1;
     }
     to
@@ -103,7 +102,6 @@ fn put_table(text: &mut [u8], rules: &[u8], columns: Columns, n: usize) -> usize
         &found.opens,
         &found.closes,
         found.many,
-        found.sound,
     )
 }
 

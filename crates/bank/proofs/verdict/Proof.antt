@@ -1,32 +1,13 @@
--- `bank::verdict` meets its contract: a refusal of either image, or what their columns and table give.
+-- `bank::verdict` meets its contract: it is the verdict of what is found.
 use borrow.Author.Needs.{needs}
-use Rattle.bank.proofs.Judged.{verdict-refused}
 use Rattle.bank.proofs.verdict.Statement.{statement}
 use Rattle.bank.proofs.verdict.Tie as tie
-
-open-requires : tie.Need-open-requires
-open-requires c κs = search needs
-
-enum-known-loaded : tie.Need-enum-known-loaded
-enum-known-loaded c = search needs
-
-enum-known-loaded-2 : tie.Need-enum-known-loaded-2
-enum-known-loaded-2 c = search needs
 
 judge-requires : tie.Need-judge-requires
 judge-requires c κs = search needs
 
 returns : tie.Need-returns
-returns c = let o = c .before .before .before in verdict-refused _ _ _ (o .open .ensures) (c .before .loaded .given .1)
-
--- from the verdict back to the images that were opened
-abbrev images-opened : tie.After-judge → tie.After-open
-images-opened c = c .before .before .before .before
-
-returns-2 : tie.Need-returns-2
-returns-2 c = c .judge .ensures _ (images-opened c .open .ensures)
+returns c = c .judge .ensures
 
 pub verdict-spec : {M : Type 1} → statement M
-verdict-spec =
-    tie.close
-    (tie.spec open-requires enum-known-loaded enum-known-loaded-2 judge-requires returns returns-2)
+verdict-spec = tie.close (tie.spec judge-requires returns)

@@ -14,12 +14,12 @@ use Rattle.report.proofs.put_rules.Statement.{statement}
 use Rattle.report.proofs.put_rules.Tie as tie
 
 abbrev Inv-loop : tie.InvT-loop
-Inv-loop text₀ at rules n kind vkind name parent begin end value item rep group opens closes many sound all to₀ k₀ text to k =
+Inv-loop text₀ at rules n kind vkind name parent begin end value item rep group opens closes many all to₀ k₀ text to k =
     (length text ≡ length text₀) × (k ≤ all)
-    × ((nodes : List ℕ) → Open nodes rules n kind vkind name parent begin end value item rep group opens closes many sound → Puts text₀ at (ruleLines (verdict nodes rules) 0 k) text to)
+    × ((nodes : List ℕ) → Open nodes rules n kind vkind name parent begin end value item rep group opens closes many → Puts text₀ at (ruleLines (verdict nodes rules) 0 k) text to)
 
 abbrev μ-loop : tie.MeasureT-loop
-μ-loop text₀ at rules n kind vkind name parent begin end value item rep group opens closes many sound all to₀ k₀ text to k = all - k
+μ-loop text₀ at rules n kind vkind name parent begin end value item rep group opens closes many all to₀ k₀ text to k = all - k
 
 -- from what is known of the parameters back to the start
 abbrev start : tie.After-shared-slice-known12 Inv-loop μ-loop → tie.Start Inv-loop μ-loop

@@ -1,8 +1,8 @@
--- `bank::judge` meets its contract: no such rule; or what was opened, with its survey, is what a verdict is asked over.
+-- `bank::looking::judge_opened` meets its contract: no such rule; or what was opened, with its survey, is what a verdict is asked over.
 use Rattle.bank.proofs.Opens.{accepted-both, open-fronts, opened}
 use Rattle.bank.proofs.Judged.{no-rule, rule-here}
-use Rattle.bank.proofs.judge.Statement.{statement}
-use Rattle.bank.proofs.judge.Tie as tie
+use Rattle.bank.proofs.looking.judge_opened.Statement.{statement}
+use Rattle.bank.proofs.looking.judge_opened.Tie as tie
 
 -- from the columns lent to `survey` back to the rule's number, which is the table's
 abbrev numbered : tie.After-survey-arg14 → tie.Else1
@@ -44,6 +44,6 @@ returns-2 c nodes o =
     let s = surveyed (c .before) in
     c .verdict-of .ensures nodes (opened _ o (start (numbered (s .before)) .pre .1) (s .survey .ensures))
 
-pub judge-spec : {M : Type 1} → statement M
-judge-spec =
+pub judge-opened-spec : {M : Type 1} → statement M
+judge-opened-spec =
     tie.close (tie.spec count-rules-requires returns survey-requires verdict-of-requires returns-2)
