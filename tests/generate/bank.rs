@@ -13,7 +13,8 @@ pub enum Shape {
 
 /// What a bank is to be like: its size, the days of its root, and how often versions touch and items share a number,
 /// how many names of fields mixers have, whether nearly all fields are there with values of their own (so that rules fail
-/// late or not at all), and whether all numbers are near the ends of what 32 bits hold.
+/// late or not at all), whether all numbers are near the ends of what 32 bits hold, and whether it is crowded: several
+/// fields of one name at once, of a few values.
 pub struct Plan {
     pub records: usize,
     pub deepest: usize,
@@ -25,6 +26,7 @@ pub struct Plan {
     pub fields: usize,
     pub tidy: bool,
     pub ends: bool,
+    pub crowded: bool,
 }
 
 /// What values the versions of one name have: how often none, a number, a text, and out of which numbers.
@@ -36,7 +38,11 @@ struct Manner {
 const SMALL: [i32; 8] = [0, 1, 2, 70, 71, -1, 2150, -2150];
 const ENDS: [i32; 8] = [i32::MIN, i32::MIN + 1, -1, 0, 1, i32::MAX - 1, i32::MAX, 1 << 30];
 
-fn manner(random: &mut Random, ends: bool) -> Manner {
+fn manner(random: &mut Random, ends: bool, crowded: bool) -> Manner {
+    if crowded {
+        let kinds = random.pick(&[[0, 1, 0], [0, 1, 0], [1, 6, 0], [1, 5, 5]]);
+        return Manner { kinds, pool: (0..random.between(1, 4)).map(|k| [0, 1, 2, 70][k]).collect() };
+    }
     let kinds = [[0, 1, 0], [0, 1, 0], [0, 0, 1], [1, 5, 5], [1, 0, 0], [1, 6, 0], [1, 12, 1]][random.share(&[5, 3, 4, 3, 1, 3, 2])];
     let pool = match if ends { 2 } else { random.share(&[7, 3, 1, 3]) } {
         0 => (0..random.between(1, 3)).map(|_| random.pick(&SMALL)).collect(),
@@ -69,7 +75,7 @@ struct Growth<'a> {
 /// A bank as planned; it has exactly the planned number of records.
 pub fn grown(random: &mut Random, plan: &Plan) -> Vec<Node> {
     let names = if random.chance(8) { [65534, 40000, 256, 3, 255, 1] } else { [1, 2, 3, 4, 5, 6] };
-    let manners = (0..6).map(|_| manner(random, plan.ends)).collect();
+    let manners = (0..6).map(|_| manner(random, plan.ends, plan.crowded)).collect();
     let mut growth = Growth { random, plan, nodes: Vec::new(), places: Vec::new(), names, manners, taken: HashMap::new(), spare: 1 };
     growth.grow();
     growth.nodes
@@ -161,7 +167,9 @@ impl<'a> Growth<'a> {
         let finish = self.random.chance(self.plan.touching / 2);
         if let Some(version) = self.add_version(item, finish) {
             if self.plan.shape == Shape::Fields && self.places[item].depth == 2 {
-                for k in 2..2 + self.plan.fields {
+                let times = if self.plan.crowded { self.random.between(1, 4) } else { 1 };
+                let fields = self.plan.fields;
+                for k in (0..times * fields).map(|k| 2 + k % fields) {
                     if self.random.chance(if self.plan.tidy { 98 } else { 75 }) {
                         self.add_named(version, self.names[k]);
                     }

@@ -69,6 +69,25 @@ pub fn rules(random: &mut Random, nodes: &[Node], plan: &Plan, count: usize, cos
     all
 }
 
+/// A few sound rules and each of them again over later periods, so that some begin after a stretch in which they fail; bounds on how many are tight.
+pub fn rules_again(random: &mut Random, nodes: &[Node], plan: &Plan, count: usize, cost: &Cost) -> Vec<Rule> {
+    let months = month_starts();
+    let few = random.between(2, 4).min(count);
+    let mut all = rules(random, nodes, plan, few, cost);
+    for rule in all.iter_mut().filter(|r| r.kind == 4) {
+        rule.min = random.pick(&[0, 1, 1, 2, 2, 3]);
+        rule.max = rule.min + random.pick(&[0, 1, 2]);
+    }
+    while all.len() < count {
+        let mut rule = all[random.below(few)].clone();
+        let begin = random.between(rule.begin as usize, rule.end as usize - 1);
+        let month = months.iter().rposition(|d| *d <= begin).unwrap();
+        rule.begin = if rule.mode == 1 && rule.unit == 2 { months[month].max(rule.begin as usize) } else { begin } as u16;
+        all.push(rule);
+    }
+    all
+}
+
 /// A version for the path and a name for the field (0 for none): mostly such that the field has a value there, and
 /// seldom a version of the root, since rows of one item alone share nothing.
 fn target(random: &mut Random, nodes: &[Node], kind: u8) -> (usize, u16) {
