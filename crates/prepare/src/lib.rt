@@ -21,6 +21,10 @@ pub mod reads; // reads.rt: the versions that a rule reads
 pub mod roles; // roles.rt: what a rule makes of one record
 pub mod rows; // rows.rt: the way along the selected versions, and their rows
 
+// Room enough for what is laid out for a rule over a small bank: where it serves, arrays of this size are declared and not those for the largest
+// bank, which take longer to clear.
+pub const SMALL: usize = 256;
+
 // The selected versions, from `start` on by `next`; the row of each, down from `last` by `lower`, counted from one, 0 for none; and a mark
 // on each version that the rule reads.
 pub struct Prepared {
