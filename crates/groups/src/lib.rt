@@ -94,18 +94,16 @@ pub fn class_at(groups: &[u16], n: usize, v: u16) -> u16
     LIMIT as u16
 }
 
-// For each of n records the class of its key. Cost: one pass over them.
-pub fn class_keys(key: &[u16], groups: &[u16], n: usize) -> [u16; LIMIT]
-    requires { ⌜ (n ≤ limit) × (n ≤ length (now key)) × (n ≤ length (now groups)) ⌝ }
-    ensures { λ r. ⌜ (length r ≡ limit) × ((f : ℕ) → f < n → getD r f 0 ≡ classAt (now (groups .entry)) n (getD (now (key .entry)) f 0)) ⌝ }
+// Puts the class of its key for each of n records into a lent column. Cost: one pass over them.
+pub fn class_keys(key: &[u16], groups: &[u16], n: usize, out: &mut [u16])
+    requires { ⌜ (n ≤ length (now key)) × (n ≤ length (now groups)) × (n ≤ length (now out)) ⌝ }
+    ensures { λ r. ⌜ ((f : ℕ) → f < n → getD (now (out .exit)) f 0 ≡ classAt (now (groups .entry)) n (getD (now (key .entry)) f 0)) ⌝ }
 {
-    let mut out = [0u16; LIMIT];
     let mut f = 0;
     while f < n {
         out[f] = class_at(groups, n, key[f]);
         f += 1;
     }
-    out
 }
 
 // The field versions under each item number, chained by the class of the version in whose row they are. Cost: two passes over the records.
@@ -113,6 +111,7 @@ pub fn gather(kind: &[u8], key: &[u16], groups: &[u16]) -> Links
     requires { ⌜ (length (now kind) ≤ limit) × (length (now kind) ≤ length (now key)) × (length (now kind) ≤ length (now groups)) ⌝ }
     ensures { λ r. ⌜ ((doc : Doc) (rule : Rule) → Lends (doc .size) (doc .kind) 0 (now (kind .entry)) → Keys doc rule (now (key .entry)) → Groups doc (now (groups .entry)) → Gathered doc rule (now (groups .entry)) (r .last) (r .lower)) ⌝ }
 {
-    let class = class_keys(key, groups, kind.len());
+    let mut class = [0u16; LIMIT];
+    class_keys(key, groups, kind.len(), &mut class);
     chain(kind, &class, 2)
 }

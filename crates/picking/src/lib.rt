@@ -1,5 +1,4 @@
 // The part of an order that a rule reads, and the places of its records: what the finder goes along.
-use columns::LIMIT;
 use numbers::index;
 use places::Places;
 ghost use mathlib.Core.Path.{_≡_};
@@ -24,19 +23,17 @@ fn mark_of(mark: u8, asked: u8, row: u16, other: u16, room: u16) -> u8
     0
 }
 
-// A mark on each of n records that is read. Cost: a look at each, without a branch, so that the compiler takes many at once.
-pub fn read_marks(marks: &[u8], asked: u8, row: &[u16], other: &[u16], n: usize) -> [u8; LIMIT]
-    requires { ⌜ (n ≤ limit) × (n ≤ length (now marks)) × (n ≤ length (now row)) × (n ≤ length (now other)) ⌝ }
-    ensures { λ r. ⌜ Marks (isRead (now (marks .entry)) asked (now (row .entry)) (now (other .entry)) n) n r ⌝ }
+// Puts a mark on each of n records that is read into a lent column. Cost: a look at each, without a branch, so that the compiler takes many at once.
+pub fn read_marks(marks: &[u8], asked: u8, row: &[u16], other: &[u16], n: usize, out: &mut [u8])
+    requires { ⌜ (n ≤ limit) × (n ≤ length (now marks)) × (n ≤ length (now row)) × (n ≤ length (now other)) × (n ≤ length (now out)) ⌝ }
+    ensures { λ r. ⌜ Marks (isRead (now (marks .entry)) asked (now (row .entry)) (now (other .entry)) n) n (now (out .exit)) ⌝ }
 {
     let room = n as u16;
-    let mut out = [0u8; LIMIT];
     let mut i = 0;
     while i < n {
         out[i] = mark_of(marks[i], asked, row[i], other[i], room);
         i += 1;
     }
-    out
 }
 
 // 1 for a mark, else 0. Cost: one test.

@@ -21,6 +21,7 @@ use Rattle.marks.specs.Marks.{marked, Marks}
 use Rattle.day.specs.Ready.{TermsBy, Terms}
 use Rattle.orders.specs.Order.{InOrder}
 use Rattle.orders.proofs.Uses.{rising-by}
+use Rattle.orders.proofs.Lengths.{at-most}
 use Rattle.passes.specs.Passes.{at, Covers, ByLeast}
 use Rattle.passes.specs.Given.{GivenLeast}
 use Rattle.picking.specs.Picked.{isRead, Picked}
@@ -94,6 +95,13 @@ module _ (doc : Doc) (q r : Rule) (places : Places) (vkinds : List ℕ) (values 
     omega (arith, size-of, g .rows-are .room),
     omega (arith, size-of, g .others-room),
   )
+
+  -- and neither order is longer than they are
+  pub opens-few : length opens ≤ length begins
+  opens-few = omega (arith, size-of, at-most (doc .size) (g .opened) (version-here doc))
+
+  pub closes-few : length closes ≤ length begins
+  closes-few = omega (arith, size-of, at-most (doc .size) (g .closed) (version-here doc))
 
   -- the order by end is one that reaches are found along
   pub closing-of : Closing doc r vkinds values begins ends rows groups closes
@@ -236,6 +244,10 @@ module _ (doc : Doc) (q r : Rule) (places : Places) (vkinds : List ℕ) (values 
 -- a column with an entry for every record that there may be covers what the begins of a document do
 pub covers-limit : (order begins column : List ℕ) → Covers order begins → (doc : Doc) {ends : List ℕ} → Periods doc begins ends → Judgeable doc → limit ≤ length column → Covers order column
 covers-limit order begins column covers doc periods judgeable h = record { has = λ j l. omega (arith, covers .has j l, periods .begin .size, judgeable .few) }
+
+-- and so does one that is as long as they are
+pub covers-room : (order begins column : List ℕ) → Covers order begins → length begins ≤ length column → Covers order column
+covers-room order begins column covers h = record { has = λ j l. omega (arith, covers .has j l) }
 
 -- whether the rule is a datatype in windows
 pub stepped : (windowed kind : ℕ) → not (eqb windowed 0) && leb 5 kind ≡ true → (eqb windowed 0 ≡ false) × (5 ≤ kind)

@@ -45,3 +45,10 @@ ByFewFirst marks classes keys lo first hi n low D =
 pub record Small (n : ℕ) (column : List ℕ) : Type 0 where
   pub room : n ≤ length column
   pub low : (x : ℕ) → x < n → at column x < n
+
+-- four lent columns have room for n records
+pub record Room (n : ℕ) (one two three four : List ℕ) : Type 0 where
+  pub in-one : n ≤ length one
+  pub in-two : n ≤ length two
+  pub in-three : n ≤ length three
+  pub in-four : n ≤ length four

@@ -90,12 +90,12 @@ fn along(
     held: &[u16],
     to: &[u16],
     n: usize,
+    reach: &mut [u16],
+    need: &mut [u16],
 ) -> u16
-    requires { ⌜ (n ≤ limit) × Ground (now order) (now lo) (now hi) n × Below (now supplies) n × Columns n (now value) (now from) (now held) (now to) ⌝ }
+    requires { ⌜ (n ≤ length (now reach)) × (n ≤ length (now need)) × Ground (now order) (now lo) (now hi) n × Below (now supplies) n × Columns n (now value) (now from) (now held) (now to) ⌝ }
     ensures { λ r. ⌜ ByAny (now (order .entry)) (now (lo .entry)) (now (value .entry)) (now (hi .entry)) (now (from .entry)) (now (held .entry)) (now (to .entry)) n r ⌝ }
 {
-    let mut reach = [0u16; LIMIT];
-    let mut need = [0u16; LIMIT];
     pieces::apart::gap_apart(
         order,
         lo,
@@ -106,8 +106,8 @@ fn along(
         held,
         to,
         n,
-        &mut reach,
-        &mut need,
+        reach,
+        need,
     )
 }
 
@@ -121,15 +121,29 @@ fn sorted(
     held: &[u16],
     to: &[u16],
     n: usize,
+    reach: &mut [u16],
+    need: &mut [u16],
 ) -> u16
-    requires { ⌜ (n ≤ limit) × Ground (now order) (now lo) (now hi) n × Columns n (now value) (now from) (now held) (now to) ⌝ }
+    requires { ⌜ (n ≤ limit) × (n ≤ length (now reach)) × (n ≤ length (now need)) × Ground (now order) (now lo) (now hi) n × Columns n (now value) (now from) (now held) (now to) ⌝ }
     ensures { λ r. ⌜ ByAny (now (order .entry)) (now (lo .entry)) (now (value .entry)) (now (hi .entry)) (now (from .entry)) (now (held .entry)) (now (to .entry)) n r ⌝ }
 {
     let kind = kinds(from, to, n);
     let by_begin = orders::versions_by(&kind[0..n], from);
     let supplies = by_begin.order;
     let many = by_begin.many;
-    along(order, lo, value, hi, &supplies[0..many], from, held, to, n)
+    along(
+        order,
+        lo,
+        value,
+        hi,
+        &supplies[0..many],
+        from,
+        held,
+        to,
+        n,
+        reach,
+        need,
+    )
 }
 
 // The same, the supplies in the order of the records where that is one of their begins. Cost: that of the test and of the pass.
@@ -142,14 +156,16 @@ fn either(
     held: &[u16],
     to: &[u16],
     n: usize,
+    reach: &mut [u16],
+    need: &mut [u16],
 ) -> u16
-    requires { ⌜ (n ≤ limit) × Ground (now order) (now lo) (now hi) n × Columns n (now value) (now from) (now held) (now to) ⌝ }
+    requires { ⌜ (n ≤ limit) × (n ≤ length (now reach)) × (n ≤ length (now need)) × Ground (now order) (now lo) (now hi) n × Columns n (now value) (now from) (now held) (now to) ⌝ }
     ensures { λ r. ⌜ ByAny (now (order .entry)) (now (lo .entry)) (now (value .entry)) (now (hi .entry)) (now (from .entry)) (now (held .entry)) (now (to .entry)) n r ⌝ }
 {
     if is_kept(order, from) {
-        return along(order, lo, value, hi, order, from, held, to, n);
+        return along(order, lo, value, hi, order, from, held, to, n, reach, need);
     }
-    sorted(order, lo, value, hi, from, held, to, n)
+    sorted(order, lo, value, hi, from, held, to, n, reach, need)
 }
 
 // A place no later than any at which a record in a row is present, and no one of the other rows has its value as the only one. Cost: that of the
@@ -162,15 +178,18 @@ pub fn unmatched(
     lo: &[u16],
     hi: &[u16],
     n: usize,
+    value: &mut [u16],
+    reach: &mut [u16],
+    need: &mut [u16],
 ) -> u16
-    requires { ⌜ (n ≤ limit) × Ground (now order) (now lo) (now hi) n × (n ≤ length (now row)) × (n ≤ length (now other)) × Small n (now rep) ⌝ }
+    requires { ⌜ (n ≤ limit) × Ground (now order) (now lo) (now hi) n × (n ≤ length (now row)) × (n ≤ length (now other)) × Small n (now rep) × (n ≤ length (now value)) × (n ≤ length (now reach)) × (n ≤ length (now need)) ⌝ }
     ensures { λ r. ⌜ ByUnmatched (now (order .entry)) (now (row .entry)) (now (other .entry)) (now (rep .entry)) (now (lo .entry)) (now (hi .entry)) n r ⌝ }
 {
-    let value = keys::value_keys(row, rep, n);
+    keys::value_keys(row, rep, n, value);
     let s = pieces::sole(order, other, lo, hi, n);
     let from = s.from;
     let to = s.to;
     let sole = s.sole;
     let held = sole_keys(&sole, rep, n);
-    either(order, lo, &value, hi, &from, &held, &to, n)
+    either(order, lo, value, hi, &from, &held, &to, n, reach, need)
 }

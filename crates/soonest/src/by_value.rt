@@ -43,15 +43,36 @@ fn key_marks(key: &[u16], n: usize) -> [u8; LIMIT]
 
 // A place no later than any at which more than `high` records of one key are present, each from `first` up to hi: they are sorted by `first`.
 // Cost: a pass for the marks, that of sorting, two passes over n records, and one along each order.
-fn resorted(closes: &[u16], key: &[u16], first: &[u16], hi: &[u16], n: usize, high: usize) -> u16
-    requires { ⌜ (n ≤ limit) × (n ≤ length (now key)) × (n ≤ length (now first)) × (n ≤ length (now hi)) × Ordered (now closes) (now hi) (now key) n ⌝ }
+fn resorted(
+    closes: &[u16],
+    key: &[u16],
+    first: &[u16],
+    hi: &[u16],
+    n: usize,
+    high: usize,
+    own: &mut [u16],
+    tally: &mut [u16],
+    holder: &mut [u16],
+) -> u16
+    requires { ⌜ (n ≤ limit) × (n ≤ length (now key)) × (n ≤ length (now first)) × (n ≤ length (now hi)) × Ordered (now closes) (now hi) (now key) n × (n ≤ length (now own)) × (n ≤ length (now tally)) × (n ≤ length (now holder)) ⌝ }
     ensures { λ r. ⌜ ByMany (now (key .entry)) (now (first .entry)) (now (hi .entry)) n high r ⌝ }
 {
     let marks = key_marks(key, n);
     let sorted = orders::versions_by(&marks[0..n], first);
     let order = sorted.order;
     let many = sorted.many;
-    counts::too_many(&order[0..many], closes, key, first, hi, n, high)
+    counts::too_many(
+        &order[0..many],
+        closes,
+        key,
+        first,
+        hi,
+        n,
+        high,
+        own,
+        tally,
+        holder,
+    )
 }
 
 // A place no later than any at which more than `high` values of one key are present. Where no key has more records in all there is none.
@@ -65,20 +86,33 @@ pub fn too_many(
     hi: &[u16],
     n: usize,
     high: usize,
+    own: &mut [u16],
+    tally: &mut [u16],
+    holder: &mut [u16],
 ) -> u16
-    requires { ⌜ Valued (now key) (now rep) n × Ground (now order) (now lo) (now hi) n × Ordered (now order) (now lo) (now key) n × Ordered (now closes) (now hi) (now key) n ⌝ }
+    requires { ⌜ Valued (now key) (now rep) n × Ground (now order) (now lo) (now hi) n × Ordered (now order) (now lo) (now key) n × Ordered (now closes) (now hi) (now key) n × (n ≤ length (now own)) × (n ≤ length (now tally)) × (n ≤ length (now holder)) ⌝ }
     ensures { λ r. ⌜ ByManyValues (now (key .entry)) (now (rep .entry)) (now (lo .entry)) (now (hi .entry)) n high r ⌝ }
 {
-    let mut tally = [0u16; LIMIT];
-    if !passes::crowded(key, n, n, high, &mut tally) {
+    if !passes::crowded(key, n, n, high, tally) {
         return NEVER;
     }
     let pair = distinct::classes::pairs_of(key, rep, n);
     let begins = distinct::shifts::firsts(order, &pair, lo, hi, n);
     if !begins.raised {
-        return counts::too_many(order, closes, key, &begins.first, hi, n, high);
+        return counts::too_many(
+            order,
+            closes,
+            key,
+            &begins.first,
+            hi,
+            n,
+            high,
+            own,
+            tally,
+            holder,
+        );
     }
-    resorted(closes, key, &begins.first, hi, n, high)
+    resorted(closes, key, &begins.first, hi, n, high, own, tally, holder)
 }
 
 // Of a marked record the one, of another the other.
@@ -137,8 +171,11 @@ fn supplied(
     hi: &[u16],
     n: usize,
     low: usize,
+    demand: &mut [u16],
+    reach: &mut [u16],
+    need: &mut [u16],
 ) -> u16
-    requires { ⌜ (n ≤ limit) × (n ≤ length (now marks)) × (n ≤ length (now key)) × (n ≤ length (now lo)) × (n ≤ length (now first)) × (n ≤ length (now hi)) × Small n (now class) × Ordered (now closes) (now hi) (now key) n ⌝ }
+    requires { ⌜ (n ≤ limit) × (n ≤ length (now marks)) × (n ≤ length (now key)) × (n ≤ length (now lo)) × (n ≤ length (now first)) × (n ≤ length (now hi)) × Small n (now class) × Ordered (now closes) (now hi) (now key) n × (n ≤ length (now demand)) × (n ≤ length (now reach)) × (n ≤ length (now need)) ⌝ }
     ensures { λ r. ⌜ ByFewFirst (now (marks .entry)) (now (class .entry)) (now (key .entry)) (now (lo .entry)) (now (first .entry)) (now (hi .entry)) n low r ⌝ }
 {
     let mut supply = [0u16; LIMIT];
@@ -158,6 +195,9 @@ fn supplied(
         hi,
         n,
         low,
+        demand,
+        reach,
+        need,
     )
 }
 
@@ -174,16 +214,45 @@ pub fn too_few(
     hi: &[u16],
     n: usize,
     low: usize,
+    demand: &mut [u16],
+    reach: &mut [u16],
+    need: &mut [u16],
 ) -> u16
-    requires { ⌜ Valued (now key) (now rep) n × Ground (now order) (now lo) (now hi) n × (n ≤ length (now marks)) × Small n (now class) × Ordered (now order) (now lo) (now key) n × Ordered (now closes) (now hi) (now key) n ⌝ }
+    requires { ⌜ Valued (now key) (now rep) n × Ground (now order) (now lo) (now hi) n × (n ≤ length (now marks)) × Small n (now class) × Ordered (now order) (now lo) (now key) n × Ordered (now closes) (now hi) (now key) n × (n ≤ length (now demand)) × (n ≤ length (now reach)) × (n ≤ length (now need)) ⌝ }
     ensures { λ r. ⌜ ByFewValues (now (order .entry)) (now (marks .entry)) (now (class .entry)) (now (key .entry)) (now (rep .entry)) (now (lo .entry)) (now (hi .entry)) n low r ⌝ }
 {
     if low <= 1 {
-        return counts::too_few(order, closes, marks, class, key, lo, hi, n, low);
+        return counts::too_few(
+            order,
+            closes,
+            marks,
+            class,
+            key,
+            lo,
+            hi,
+            n,
+            low,
+            demand,
+            reach,
+            need,
+        );
     }
     let pair = distinct::classes::pairs_of(key, rep, n);
     let begins = distinct::shifts::firsts(order, &pair, lo, hi, n);
-    supplied(closes, marks, class, key, lo, &begins.first, hi, n, low)
+    supplied(
+        closes,
+        marks,
+        class,
+        key,
+        lo,
+        &begins.first,
+        hi,
+        n,
+        low,
+        demand,
+        reach,
+        need,
+    )
 }
 
 // A cardinality of values: too few of the class of a marked record, or too many of one key.
@@ -199,12 +268,41 @@ pub fn cardinality(
     n: usize,
     low: usize,
     high: usize,
+    demand: &mut [u16],
+    top: &mut [u16],
+    holder: &mut [u16],
 ) -> u16
-    requires { ⌜ Valued (now key) (now rep) n × Ground (now order) (now lo) (now hi) n × (n ≤ length (now marks)) × Small n (now class) × Ordered (now order) (now lo) (now key) n × Ordered (now closes) (now hi) (now key) n ⌝ }
+    requires { ⌜ Valued (now key) (now rep) n × Ground (now order) (now lo) (now hi) n × (n ≤ length (now marks)) × Small n (now class) × Ordered (now order) (now lo) (now key) n × Ordered (now closes) (now hi) (now key) n × (n ≤ length (now demand)) × (n ≤ length (now top)) × (n ≤ length (now holder)) ⌝ }
     ensures { λ r. ⌜ ByFewValues (now (order .entry)) (now (marks .entry)) (now (class .entry)) (now (key .entry)) (now (rep .entry)) (now (lo .entry)) (now (hi .entry)) n low r × ByManyValues (now (key .entry)) (now (rep .entry)) (now (lo .entry)) (now (hi .entry)) n high r ⌝ }
 {
     sooner(
-        too_few(order, closes, marks, class, key, rep, lo, hi, n, low),
-        too_many(order, closes, key, rep, lo, hi, n, high),
+        too_few(
+            order,
+            closes,
+            marks,
+            class,
+            key,
+            rep,
+            lo,
+            hi,
+            n,
+            low,
+            demand,
+            top,
+            holder,
+        ),
+        too_many(
+            order,
+            closes,
+            key,
+            rep,
+            lo,
+            hi,
+            n,
+            high,
+            demand,
+            top,
+            holder,
+        ),
     )
 }

@@ -9,7 +9,6 @@ ghost use Rattle.meaning.specs.Block.{limit};
 ghost use Rattle.soonest.specs.Lined.{Ground};
 ghost use Rattle.soonest.specs.Parts.{ByFew, Small};
 ghost use Rattle.crowds.specs.Crowds.{ByMany, Ordered};
-ghost use Rattle.crowds.specs.Levels.{Levels};
 
 // A place no later than any at which a marked record is present, and no record whose key is its class is. Cost: three passes over n records, one
 // along the order.
@@ -21,46 +20,15 @@ pub fn lacking(
     lo: &[u16],
     hi: &[u16],
     n: usize,
+    demand: &mut [u16],
+    reach: &mut [u16],
+    need: &mut [u16],
 ) -> u16
-    requires { ⌜ (n ≤ limit) × Ground (now order) (now lo) (now hi) n × (n ≤ length (now marks)) × (n ≤ length (now key)) × Small n (now class) ⌝ }
+    requires { ⌜ Ground (now order) (now lo) (now hi) n × (n ≤ length (now marks)) × (n ≤ length (now key)) × Small n (now class) × (n ≤ length (now demand)) × (n ≤ length (now reach)) × (n ≤ length (now need)) ⌝ }
     ensures { λ r. ⌜ ByFew (now (order .entry)) (now (marks .entry)) (now (class .entry)) (now (key .entry)) (now (lo .entry)) (now (hi .entry)) n 1 r ⌝ }
 {
-    let demand = keys::demand_keys(marks, class, n);
-    let mut reach = [0u16; LIMIT];
-    let mut need = [0u16; LIMIT];
-    passes::gap(order, lo, &demand, hi, key, hi, n, &mut reach, &mut need)
-}
-
-// For each record the place up to which, from its own lo on, at least `low` records of its key are present, 0 for one that does not bring them to
-// as many. Cost: a pass over n records, and one along each order.
-fn levels(
-    order: &[u16],
-    closes: &[u16],
-    key: &[u16],
-    lo: &[u16],
-    hi: &[u16],
-    n: usize,
-    low: usize,
-) -> [u16; LIMIT]
-    requires { ⌜ (n ≤ limit) × Ground (now order) (now lo) (now hi) n × (n ≤ length (now key)) × Ordered (now order) (now lo) (now key) n × Ordered (now closes) (now hi) (now key) n × (1 ≤ low) ⌝ }
-    ensures { λ r. ⌜ (length r ≡ limit) × Levels (now (key .entry)) (now (lo .entry)) (now (hi .entry)) n low r ⌝ }
-{
-    let mut tally = [0u16; LIMIT];
-    let mut opener = [0u16; LIMIT];
-    let mut until = [0u16; LIMIT];
-    crowds::level::level(
-        order,
-        closes,
-        key,
-        lo,
-        hi,
-        n,
-        low,
-        &mut tally,
-        &mut opener,
-        &mut until,
-    );
-    until
+    keys::demand_keys(marks, class, n, demand);
+    passes::gap(order, lo, demand, hi, key, hi, n, reach, need)
 }
 
 // A place no later than any at which a marked record is present, and fewer than `low`, one or more, of the records whose key is its class are: its
@@ -75,15 +43,17 @@ fn below(
     hi: &[u16],
     n: usize,
     low: usize,
+    demand: &mut [u16],
+    reach: &mut [u16],
+    need: &mut [u16],
 ) -> u16
-    requires { ⌜ (n ≤ limit) × Ground (now order) (now lo) (now hi) n × (n ≤ length (now marks)) × (n ≤ length (now key)) × Small n (now class) × Ordered (now order) (now lo) (now key) n × Ordered (now closes) (now hi) (now key) n × (1 ≤ low) ⌝ }
+    requires { ⌜ (n ≤ limit) × Ground (now order) (now lo) (now hi) n × (n ≤ length (now marks)) × (n ≤ length (now key)) × Small n (now class) × Ordered (now order) (now lo) (now key) n × Ordered (now closes) (now hi) (now key) n × (1 ≤ low) × (n ≤ length (now demand)) × (n ≤ length (now reach)) × (n ≤ length (now need)) ⌝ }
     ensures { λ r. ⌜ ByFew (now (order .entry)) (now (marks .entry)) (now (class .entry)) (now (key .entry)) (now (lo .entry)) (now (hi .entry)) n low r ⌝ }
 {
-    let until = levels(order, closes, key, lo, hi, n, low);
-    let asked = keys::demand_keys(marks, class, n);
-    let mut reach = [0u16; LIMIT];
-    let mut need = [0u16; LIMIT];
-    passes::gap(order, lo, &asked, hi, key, &until, n, &mut reach, &mut need)
+    let mut until = [0u16; LIMIT];
+    crowds::level::level(order, closes, key, lo, hi, n, low, reach, need, &mut until);
+    keys::demand_keys(marks, class, n, demand);
+    passes::gap(order, lo, demand, hi, key, &until, n, reach, need)
 }
 
 // A place no later than any at which a marked record is present, and fewer than `low` records whose key is its class are.
@@ -98,17 +68,33 @@ pub fn too_few(
     hi: &[u16],
     n: usize,
     low: usize,
+    demand: &mut [u16],
+    reach: &mut [u16],
+    need: &mut [u16],
 ) -> u16
-    requires { ⌜ (n ≤ limit) × Ground (now order) (now lo) (now hi) n × (n ≤ length (now marks)) × (n ≤ length (now key)) × Small n (now class) × Ordered (now order) (now lo) (now key) n × Ordered (now closes) (now hi) (now key) n ⌝ }
+    requires { ⌜ (n ≤ limit) × Ground (now order) (now lo) (now hi) n × (n ≤ length (now marks)) × (n ≤ length (now key)) × Small n (now class) × Ordered (now order) (now lo) (now key) n × Ordered (now closes) (now hi) (now key) n × (n ≤ length (now demand)) × (n ≤ length (now reach)) × (n ≤ length (now need)) ⌝ }
     ensures { λ r. ⌜ ByFew (now (order .entry)) (now (marks .entry)) (now (class .entry)) (now (key .entry)) (now (lo .entry)) (now (hi .entry)) n low r ⌝ }
 {
     if low == 0 {
         return NEVER;
     }
     if low == 1 {
-        return lacking(order, marks, class, key, lo, hi, n);
+        return lacking(order, marks, class, key, lo, hi, n, demand, reach, need);
     }
-    below(order, closes, marks, class, key, lo, hi, n, low)
+    below(
+        order,
+        closes,
+        marks,
+        class,
+        key,
+        lo,
+        hi,
+        n,
+        low,
+        demand,
+        reach,
+        need,
+    )
 }
 
 // A place no later than any at which more than `high` records of one key are present, where some key has more in all.
@@ -121,18 +107,21 @@ fn crowd(
     hi: &[u16],
     n: usize,
     high: usize,
+    own: &mut [u16],
+    tally: &mut [u16],
+    holder: &mut [u16],
 ) -> u16
-    requires { ⌜ (n ≤ limit) × Ground (now order) (now lo) (now hi) n × (n ≤ length (now key)) × Ordered (now order) (now lo) (now key) n × Ordered (now closes) (now hi) (now key) n ⌝ }
+    requires { ⌜ (n ≤ limit) × Ground (now order) (now lo) (now hi) n × (n ≤ length (now key)) × Ordered (now order) (now lo) (now key) n × Ordered (now closes) (now hi) (now key) n × (n ≤ length (now own)) × (n ≤ length (now tally)) × (n ≤ length (now holder)) ⌝ }
     ensures { λ r. ⌜ ByMany (now (key .entry)) (now (lo .entry)) (now (hi .entry)) n high r ⌝ }
 {
     if high == 0 {
         return passes::least(order, key, lo, hi, n);
     }
     if high == 1 {
-        return crate::parts::twice(order, key, lo, hi, n);
+        keys::numbered(n, own);
+        return crate::parts::twice(order, key, own, lo, hi, n, tally, holder);
     }
-    let mut tally = [0u16; LIMIT];
-    crowds::crowd(order, closes, key, lo, hi, n, high, &mut tally)
+    crowds::crowd(order, closes, key, lo, hi, n, high, tally)
 }
 
 // A place no later than any at which more than `high` records of one key are present. Where no key has more in all there is none.
@@ -145,13 +134,15 @@ pub fn too_many(
     hi: &[u16],
     n: usize,
     high: usize,
+    own: &mut [u16],
+    tally: &mut [u16],
+    holder: &mut [u16],
 ) -> u16
-    requires { ⌜ (n ≤ limit) × Ground (now order) (now lo) (now hi) n × (n ≤ length (now key)) × Ordered (now order) (now lo) (now key) n × Ordered (now closes) (now hi) (now key) n ⌝ }
+    requires { ⌜ (n ≤ limit) × Ground (now order) (now lo) (now hi) n × (n ≤ length (now key)) × Ordered (now order) (now lo) (now key) n × Ordered (now closes) (now hi) (now key) n × (n ≤ length (now own)) × (n ≤ length (now tally)) × (n ≤ length (now holder)) ⌝ }
     ensures { λ r. ⌜ ByMany (now (key .entry)) (now (lo .entry)) (now (hi .entry)) n high r ⌝ }
 {
-    let mut tally = [0u16; LIMIT];
-    if !passes::crowded(key, n, n, high, &mut tally) {
+    if !passes::crowded(key, n, n, high, tally) {
         return NEVER;
     }
-    crowd(order, closes, key, lo, hi, n, high)
+    crowd(order, closes, key, lo, hi, n, high, own, tally, holder)
 }

@@ -1,4 +1,4 @@
-// Columns for the passes, made of what a rule picks out: keys, of which a record without one has LIMIT, and days.
+// Columns for the passes, put into lent ones, made of what a rule picks out: keys, of which a record without one has LIMIT, and days.
 use columns::LIMIT;
 use numbers::index;
 ghost use mathlib.Core.Path.{_≡_};
@@ -11,17 +11,15 @@ ghost use Rattle.meaning.specs.Window.{least};
 ghost use Rattle.soonest.specs.Keyed.{Numbered, DemandKeys, ValueKeys, Earlier};
 
 // Each of n records by its own number. Cost: one pass.
-pub fn numbered(n: usize) -> [u16; LIMIT]
-    requires { ⌜ n ≤ limit ⌝ }
-    ensures { λ r. ⌜ Numbered n r ⌝ }
+pub fn numbered(n: usize, out: &mut [u16])
+    requires { ⌜ (n ≤ limit) × (n ≤ length (now out)) ⌝ }
+    ensures { λ r. ⌜ Numbered n (now (out .exit)) ⌝ }
 {
-    let mut out = [0u16; LIMIT];
     let mut i = 0;
     while i < n {
         out[i] = i as u16;
         i += 1;
     }
-    out
 }
 
 // A class where the mark is 1, else LIMIT. Cost: one test.
@@ -35,17 +33,15 @@ fn if_marked(mark: u8, class: u16) -> u16
 }
 
 // Each marked one of n records by its class. Cost: one pass.
-pub fn demand_keys(marks: &[u8], class: &[u16], n: usize) -> [u16; LIMIT]
-    requires { ⌜ (n ≤ limit) × (n ≤ length (now marks)) × (n ≤ length (now class)) ⌝ }
-    ensures { λ r. ⌜ DemandKeys n (now (marks .entry)) (now (class .entry)) r ⌝ }
+pub fn demand_keys(marks: &[u8], class: &[u16], n: usize, out: &mut [u16])
+    requires { ⌜ (n ≤ length (now marks)) × (n ≤ length (now class)) × (n ≤ length (now out)) ⌝ }
+    ensures { λ r. ⌜ DemandKeys n (now (marks .entry)) (now (class .entry)) (now (out .exit)) ⌝ }
 {
-    let mut out = [0u16; LIMIT];
     let mut i = 0;
     while i < n {
         out[i] = if_marked(marks[i], class[i]);
         i += 1;
     }
-    out
 }
 
 // A representative where there is a row, else LIMIT. Cost: one test.
@@ -59,17 +55,15 @@ fn if_in_row(row: u16, n: usize, rep: u16) -> u16
 }
 
 // Each of n records that is in a row by the representative of its value. Cost: one pass.
-pub fn value_keys(row: &[u16], rep: &[u16], n: usize) -> [u16; LIMIT]
-    requires { ⌜ (n ≤ limit) × (n ≤ length (now row)) × (n ≤ length (now rep)) ⌝ }
-    ensures { λ r. ⌜ ValueKeys n (now (row .entry)) (now (rep .entry)) r ⌝ }
+pub fn value_keys(row: &[u16], rep: &[u16], n: usize, out: &mut [u16])
+    requires { ⌜ (n ≤ length (now row)) × (n ≤ length (now rep)) × (n ≤ length (now out)) ⌝ }
+    ensures { λ r. ⌜ ValueKeys n (now (row .entry)) (now (rep .entry)) (now (out .exit)) ⌝ }
 {
-    let mut out = [0u16; LIMIT];
     let mut i = 0;
     while i < n {
         out[i] = if_in_row(row[i], n, rep[i]);
         i += 1;
     }
-    out
 }
 
 // The earlier of two days. Cost: one test.
@@ -83,15 +77,13 @@ fn earlier(a: u16, b: u16) -> u16
 }
 
 // For each of n records the earlier of two days. Cost: one pass.
-pub fn earlier_days(one: &[u16], other: &[u16], n: usize) -> [u16; LIMIT]
-    requires { ⌜ (n ≤ limit) × (n ≤ length (now one)) × (n ≤ length (now other)) ⌝ }
-    ensures { λ r. ⌜ Earlier n (now (one .entry)) (now (other .entry)) r ⌝ }
+pub fn earlier_days(one: &[u16], other: &[u16], n: usize, out: &mut [u16])
+    requires { ⌜ (n ≤ length (now one)) × (n ≤ length (now other)) × (n ≤ length (now out)) ⌝ }
+    ensures { λ r. ⌜ Earlier n (now (one .entry)) (now (other .entry)) (now (out .exit)) ⌝ }
 {
-    let mut out = [0u16; LIMIT];
     let mut i = 0;
     while i < n {
         out[i] = earlier(one[i], other[i]);
         i += 1;
     }
-    out
 }

@@ -14,39 +14,55 @@ ghost use Rattle.meaning.specs.Document.{Doc};
 ghost use Rattle.meaning.specs.Rules.{isSequenced};
 ghost use Rattle.places.specs.declared.Places.{Places};
 ghost use Rattle.crowds.specs.Crowds.{ByMany, Ordered};
+ghost use Rattle.soonest.specs.Keyed.{Numbered};
 ghost use Rattle.soonest.specs.Lined.{Ground};
-ghost use Rattle.soonest.specs.Parts.{ByTwice, ByShared, ByFew, Small};
+ghost use Rattle.soonest.specs.Parts.{ByTwice, ByShared, ByFew, Small, Room};
 ghost use Rattle.soonest.specs.Matched.{ByUnmatched};
 ghost use Rattle.soonest.specs.Soon.{Soon};
 ghost use Rattle.soonest.specs.Swept.{Swept};
 
-// A unique: two values in a row, or one value in two rows.
-fn unique(order: &[u16], row: &[u16], rep: &[u16], lo: &[u16], hi: &[u16], n: usize) -> u16
-    requires { ⌜ (n ≤ limit) × Ground (now order) (now lo) (now hi) n × (n ≤ length (now row)) × Small n (now rep) ⌝ }
+// A unique: two values in a row, or one value in two rows; `own` has each record's own number.
+fn unique(
+    order: &[u16],
+    own: &[u16],
+    row: &[u16],
+    rep: &[u16],
+    lo: &[u16],
+    hi: &[u16],
+    n: usize,
+    value: &mut [u16],
+    top: &mut [u16],
+    holder: &mut [u16],
+) -> u16
+    requires { ⌜ Ground (now order) (now lo) (now hi) n × (n ≤ length (now row)) × Numbered n (now own) × Small n (now rep) × (n ≤ length (now value)) × (n ≤ length (now top)) × (n ≤ length (now holder)) ⌝ }
     ensures { λ r. ⌜ ByTwice (now (order .entry)) (now (row .entry)) (now (lo .entry)) (now (hi .entry)) n r × ByShared (now (order .entry)) (now (row .entry)) (now (rep .entry)) (now (row .entry)) (now (lo .entry)) (now (hi .entry)) n r ⌝ }
 {
     sooner(
-        parts::twice(order, row, lo, hi, n),
-        parts::shared(order, row, rep, row, lo, hi, n),
+        parts::twice(order, row, own, lo, hi, n, top, holder),
+        parts::shared(order, row, rep, row, lo, hi, n, value, top, holder),
     )
 }
 
 // A reference: two values in a row, or a value that no row of the other rule has as its only one.
 fn reference(
     order: &[u16],
+    own: &[u16],
     row: &[u16],
     other: &[u16],
     rep: &[u16],
     lo: &[u16],
     hi: &[u16],
     n: usize,
+    value: &mut [u16],
+    top: &mut [u16],
+    holder: &mut [u16],
 ) -> u16
-    requires { ⌜ (n ≤ limit) × Ground (now order) (now lo) (now hi) n × (n ≤ length (now row)) × (n ≤ length (now other)) × Small n (now rep) ⌝ }
+    requires { ⌜ (n ≤ limit) × Ground (now order) (now lo) (now hi) n × (n ≤ length (now row)) × (n ≤ length (now other)) × Numbered n (now own) × Small n (now rep) × (n ≤ length (now value)) × (n ≤ length (now top)) × (n ≤ length (now holder)) ⌝ }
     ensures { λ r. ⌜ ByTwice (now (order .entry)) (now (row .entry)) (now (lo .entry)) (now (hi .entry)) n r × ByUnmatched (now (order .entry)) (now (row .entry)) (now (other .entry)) (now (rep .entry)) (now (lo .entry)) (now (hi .entry)) n r ⌝ }
 {
     sooner(
-        parts::twice(order, row, lo, hi, n),
-        alone::unmatched(order, row, other, rep, lo, hi, n),
+        parts::twice(order, row, own, lo, hi, n, top, holder),
+        alone::unmatched(order, row, other, rep, lo, hi, n, value, top, holder),
     )
 }
 
@@ -62,13 +78,29 @@ pub fn cardinality(
     n: usize,
     low: usize,
     high: usize,
+    demand: &mut [u16],
+    top: &mut [u16],
+    holder: &mut [u16],
 ) -> u16
-    requires { ⌜ (n ≤ limit) × Ground (now order) (now lo) (now hi) n × (n ≤ length (now marks)) × (n ≤ length (now key)) × Small n (now class) × Ordered (now order) (now lo) (now key) n × Ordered (now closes) (now hi) (now key) n ⌝ }
+    requires { ⌜ (n ≤ limit) × Ground (now order) (now lo) (now hi) n × (n ≤ length (now marks)) × (n ≤ length (now key)) × Small n (now class) × Ordered (now order) (now lo) (now key) n × Ordered (now closes) (now hi) (now key) n × (n ≤ length (now demand)) × (n ≤ length (now top)) × (n ≤ length (now holder)) ⌝ }
     ensures { λ r. ⌜ ByFew (now (order .entry)) (now (marks .entry)) (now (class .entry)) (now (key .entry)) (now (lo .entry)) (now (hi .entry)) n low r × ByMany (now (key .entry)) (now (lo .entry)) (now (hi .entry)) n high r ⌝ }
 {
     sooner(
-        counts::too_few(order, closes, marks, class, key, lo, hi, n, low),
-        counts::too_many(order, closes, key, lo, hi, n, high),
+        counts::too_few(
+            order,
+            closes,
+            marks,
+            class,
+            key,
+            lo,
+            hi,
+            n,
+            low,
+            demand,
+            top,
+            holder,
+        ),
+        counts::too_many(order, closes, key, lo, hi, n, high, demand, top, holder),
     )
 }
 
@@ -82,17 +114,21 @@ fn key(
     lo: &[u16],
     hi: &[u16],
     n: usize,
+    value: &mut [u16],
+    top: &mut [u16],
+    holder: &mut [u16],
 ) -> u16
-    requires { ⌜ (n ≤ limit) × Ground (now order) (now lo) (now hi) n × (n ≤ length (now chosen)) × (n ≤ length (now row)) × Small n (now rep) × Small n (now own) ⌝ }
+    requires { ⌜ Ground (now order) (now lo) (now hi) n × (n ≤ length (now chosen)) × (n ≤ length (now row)) × Numbered n (now own) × Small n (now rep) × Small n (now own) × (n ≤ length (now value)) × (n ≤ length (now top)) × (n ≤ length (now holder)) ⌝ }
     ensures { λ r. ⌜ ByFew (now (order .entry)) (now (chosen .entry)) (now (own .entry)) (now (row .entry)) (now (lo .entry)) (now (hi .entry)) n 1 r × ByTwice (now (order .entry)) (now (row .entry)) (now (lo .entry)) (now (hi .entry)) n r × ByShared (now (order .entry)) (now (row .entry)) (now (rep .entry)) (now (row .entry)) (now (lo .entry)) (now (hi .entry)) n r ⌝ }
 {
     sooner(
-        counts::lacking(order, chosen, own, row, lo, hi, n),
-        unique(order, row, rep, lo, hi, n),
+        counts::lacking(order, chosen, own, row, lo, hi, n, value, top, holder),
+        unique(order, own, row, rep, lo, hi, n, value, top, holder),
     )
 }
 
-// The soonest day, counted from the period's first: nothing offends on any day before it. Cost: that of the parts that the kind has.
+// The soonest day, counted from the period's first: nothing offends on any day before it. Four columns are lent, two for keys and two for what a
+// sweep keeps by key; what they hold beforehand is of no account. Cost: that of the parts that the kind has.
 pub fn on_days(
     kind: u8,
     low: usize,
@@ -106,22 +142,40 @@ pub fn on_days(
     lo: &[u16],
     hi: &[u16],
     n: usize,
+    own: &mut [u16],
+    value: &mut [u16],
+    top: &mut [u16],
+    holder: &mut [u16],
 ) -> u16
-    requires { ⌜ ((doc : Doc) × (q : Rule) × (r : Rule) × (places : Places) × Swept doc q r places (now order) (now closes) (now chosen) (now row) (now other) (now rep) (now lo) (now hi) kind low high × (doc .size ≡ n)) ⌝ }
+    requires { ⌜ Room n (now own) (now value) (now top) (now holder) × ((doc : Doc) × (q : Rule) × (r : Rule) × (places : Places) × Swept doc q r places (now order) (now closes) (now chosen) (now row) (now other) (now rep) (now lo) (now hi) kind low high × (doc .size ≡ n)) ⌝ }
     ensures { λ x. ⌜ ((doc : Doc) → (q r : Rule) → (places : Places) → Swept doc q r places (now (order .entry)) (now (closes .entry)) (now (chosen .entry)) (now (row .entry)) (now (other .entry)) (now (rep .entry)) (now (lo .entry)) (now (hi .entry)) kind low high → doc .size ≡ n → isSequenced r ≡ true → Soon doc q r places x) ⌝ }
 {
-    if kind == 2 {
-        return unique(order, row, rep, lo, hi, n);
-    }
-    if kind == 3 {
-        return reference(order, row, other, rep, lo, hi, n);
-    }
     if 5 <= kind {
         return passes::least(order, row, lo, hi, n);
     }
-    let own = keys::numbered(n);
-    if kind == 4 {
-        return cardinality(order, closes, chosen, &own, row, lo, hi, n, low, high);
+    keys::numbered(n, own);
+    if kind == 2 {
+        return unique(order, own, row, rep, lo, hi, n, value, top, holder);
     }
-    key(order, chosen, &own, row, rep, lo, hi, n)
+    if kind == 3 {
+        return reference(order, own, row, other, rep, lo, hi, n, value, top, holder);
+    }
+    if kind == 4 {
+        return cardinality(
+            order,
+            closes,
+            chosen,
+            own,
+            row,
+            lo,
+            hi,
+            n,
+            low,
+            high,
+            value,
+            top,
+            holder,
+        );
+    }
+    key(order, chosen, own, row, rep, lo, hi, n, value, top, holder)
 }

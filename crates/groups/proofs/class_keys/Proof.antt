@@ -30,8 +30,8 @@ class-at-requires c κs = search needs
 mul-out : tie.Need-mul-out Inv-loop μ-loop
 mul-out c = search needs
 
-array-write-out : tie.Need-array-write-out Inv-loop μ-loop
-array-write-out c = search needs
+slice-write-out : tie.Need-slice-write-out Inv-loop μ-loop
+slice-write-out c = search needs
 
 add-f : tie.Need-add-f Inv-loop μ-loop
 add-f c = search needs
@@ -44,10 +44,11 @@ loop-again c =
     let s = c .before .before .before .loop in
     (omega arith, simp length-set (s .inv .1), filled-store _ (s .inv .2) (omega arith) _ (c .class-at .ensures))
 
+same-length : tie.Need-same-length Inv-loop μ-loop
+same-length c = search needs
+
 returns : tie.Need-returns Inv-loop μ-loop
-returns c =
-    let s = c .before .loop in
-    (s .inv .1, λ f h. s .inv .2 .entry f (omega arith))
+returns c = let s = c .before .loop in λ f h. s .inv .2 .entry f (omega arith)
 
 pub class-keys-spec : {M : Type 1} → statement M
 class-keys-spec =
@@ -60,8 +61,9 @@ class-keys-spec =
     shared-slice-read-class-at
     class-at-requires
     mul-out
-    array-write-out
+    slice-write-out
     add-f
     loop-less
     loop-again
+    same-length
     returns)

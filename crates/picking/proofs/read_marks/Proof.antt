@@ -10,10 +10,10 @@ use Rattle.picking.proofs.read_marks.Statement.{statement}
 use Rattle.picking.proofs.read_marks.Tie as tie
 
 abbrev Inv-loop : tie.InvT-loop
-Inv-loop marks asked row other n room out₀ i₀ out i = (i ≤ n) × (length out ≡ length out₀) × Filled (Marked (isRead marks asked row other n)) i out
+Inv-loop marks asked row other n out₀ room i₀ out i = (i ≤ n) × (length out ≡ length out₀) × Filled (Marked (isRead marks asked row other n)) i out
 
 abbrev μ-loop : tie.MeasureT-loop
-μ-loop marks asked row other n room out₀ i₀ out i = n - i
+μ-loop marks asked row other n out₀ room i₀ out i = n - i
 
 cast-room : tie.Need-cast-room Inv-loop μ-loop
 cast-room c = search needs
@@ -39,8 +39,8 @@ shared-slice-read-mark-of-3 c = search needs
 mark-of-requires : tie.Need-mark-of-requires Inv-loop μ-loop
 mark-of-requires c κs = search needs
 
-array-write-out : tie.Need-array-write-out Inv-loop μ-loop
-array-write-out c = search needs
+slice-write-out : tie.Need-slice-write-out Inv-loop μ-loop
+slice-write-out c = search needs
 
 add-i : tie.Need-add-i Inv-loop μ-loop
 add-i c = search needs
@@ -55,6 +55,9 @@ head c = c .before .before .before .before .before
 loop-again : tie.Need-loop-again Inv-loop μ-loop
 unfolding isRead
 loop-again c = let s = head c .loop in (omega arith, simp length-set (s .inv .1), filled-store _ (s .inv .2) (search needs) _ (c .mark-of .ensures))
+
+same-length : tie.Need-same-length Inv-loop μ-loop
+same-length c = search needs
 
 returns : tie.Need-returns Inv-loop μ-loop
 returns c = let s = c .before .loop in filled-marks _ _ _ _ (s .inv .2) (omega arith) (search needs)
@@ -73,8 +76,9 @@ read-marks-spec =
     mul-mark-of-2
     shared-slice-read-mark-of-3
     mark-of-requires
-    array-write-out
+    slice-write-out
     add-i
     loop-less
     loop-again
+    same-length
     returns)

@@ -4,6 +4,18 @@ use Rattle.soonest.proofs.Matching.{sorted-below}
 use Rattle.soonest.proofs.alone.sorted.Statement.{statement}
 use Rattle.soonest.proofs.alone.sorted.Tie as tie
 
+-- from the sorting back to the start
+abbrev entry : tie.After-versions-by → tie.Start
+entry c = c .before .before .before .before .before .before .before .before .before .before .before .before .before
+
+-- from the call of the pass back to the sorting
+abbrev sorting : tie.After-along-arg3 → tie.After-versions-by
+sorting c = c .before .before .before .before .before
+
+-- from the end back to the call
+abbrev swept : tie.After-slice-known4 → tie.After-along
+swept c = c .before .before .before .before
+
 kinds-requires : tie.Need-kinds-requires
 kinds-requires c κs = search needs
 
@@ -28,18 +40,20 @@ part-along-start c = search needs
 part-along-end : tie.Need-part-along-end
 part-along-end c = search needs
 
--- from the sorting back to the start
-abbrev entry : tie.After-versions-by → tie.Start
-entry c = c .before .before .before .before .before .before .before .before .before .before .before
-
 along-requires : tie.Need-along-requires
 along-requires c κs =
-    let v = c .before .before .before in
+    let v = sorting c in
     let p = entry v .pre in
-    (p .0, p .1, sorted-below _ _ _ _ _ (v .versions-by .ensures .0), p .2)
+    (p .1, p .2, p .3, sorted-below _ _ _ _ _ (v .versions-by .ensures .0), p .4)
+
+same-length : tie.Need-same-length
+same-length c = search needs
+
+same-length-2 : tie.Need-same-length-2
+same-length-2 c = search needs
 
 returns : tie.Need-returns
-returns c = search needs
+returns c = swept c .along .ensures
 
 pub sorted-spec : {M : Type 1} → statement M
 sorted-spec =
@@ -54,4 +68,6 @@ sorted-spec =
     part-along-start
     part-along-end
     along-requires
+    same-length
+    same-length-2
     returns)

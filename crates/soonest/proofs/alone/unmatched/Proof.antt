@@ -4,6 +4,26 @@ use Rattle.soonest.proofs.Matching.{unmatched-by}
 use Rattle.soonest.proofs.alone.unmatched.Statement.{statement}
 use Rattle.soonest.proofs.alone.unmatched.Tie as tie
 
+-- from the keys of the demands back to the start
+abbrev entry : tie.After-value-keys → tie.Start
+entry c = c .before .before .before .before .before .before .before .before .before .before .before
+
+-- from the stretches back to them
+abbrev demanded : tie.After-sole → tie.After-value-keys
+demanded c = c .before .before .before
+
+-- from the keys of the supplies back to the stretches
+abbrev stretched : tie.After-sole-keys → tie.After-sole
+stretched c = c .before .before .before .before .before
+
+-- from the answer back to those keys
+abbrev supplied : tie.After-either → tie.After-sole-keys
+supplied c = c .before .before .before .before .before .before .before
+
+-- from the end back to the answer
+abbrev answered : tie.After-slice-known6 → tie.After-either
+answered c = c .before .before .before .before
+
 value-keys-requires : tie.Need-value-keys-requires
 value-keys-requires c κs = search needs
 
@@ -25,31 +45,26 @@ slice-aggregate-either-2 c = search needs
 slice-aggregate-either-3 : tie.Need-slice-aggregate-either-3
 slice-aggregate-either-3 c = search needs
 
-slice-aggregate-either-4 : tie.Need-slice-aggregate-either-4
-slice-aggregate-either-4 c = search needs
-
 either-requires : tie.Need-either-requires
 either-requires c κs = search needs
 
--- from the answer back to the keys of the supplies
-abbrev after-keys : tie.After-either → tie.After-sole-keys
-after-keys c = c .before .before .before .before .before
+same-length : tie.Need-same-length
+same-length c = search needs
 
--- from there back to the stretches
-abbrev after-sole : tie.After-sole-keys → tie.After-sole
-after-sole c = c .before .before .before .before .before
+same-length-2 : tie.Need-same-length-2
+same-length-2 c = search needs
 
--- from the keys of the demands back to the start
-abbrev entry : tie.After-value-keys → tie.Start
-entry c = c .before .before .before .before .before .before .before
+same-length-3 : tie.Need-same-length-3
+same-length-3 c = search needs
 
 returns : tie.Need-returns
 returns c =
-    let k = after-keys c in
-    let s = after-sole k in
-    let d = s .before in
+    let a = answered c in
+    let k = supplied a in
+    let s = stretched k in
+    let d = demanded s in
     let p = entry d .pre in
-    unmatched-by _ _ _ _ (p .1) _ _ _ _ _ _ _ _ (d .value-keys .ensures) (p .4) (s .sole .ensures) (k .sole-keys .ensures) _ (c .either .ensures)
+    unmatched-by _ _ _ _ (p .1) _ _ _ _ _ _ _ _ (d .value-keys .ensures) (p .4) (s .sole .ensures) (k .sole-keys .ensures) _ (a .either .ensures)
 
 pub unmatched-spec : {M : Type 1} → statement M
 unmatched-spec =
@@ -62,6 +77,8 @@ unmatched-spec =
     slice-aggregate-either
     slice-aggregate-either-2
     slice-aggregate-either-3
-    slice-aggregate-either-4
     either-requires
+    same-length
+    same-length-2
+    same-length-3
     returns)

@@ -5,6 +5,22 @@ use borrow.Author.Needs.{needs}
 use Rattle.soonest.proofs.by_value.supplied.Statement.{statement}
 use Rattle.soonest.proofs.by_value.supplied.Tie as tie
 
+-- from the call back to where the records are sorted
+abbrev after-versions-by : tie.After-too-few-arg4 → tie.After-versions-by
+after-versions-by c = c .before .before .before .before .before .before .before .before
+
+-- from there back to where the columns are laid out
+abbrev after-part : tie.After-versions-by → tie.After-part
+after-part c = c .before .before .before .before .before .before .before
+
+-- and from there to the start
+abbrev entry : tie.After-part → tie.Start
+entry c = c .before .before .before .before .before .before .before .before .before .before .before .before .before .before
+
+-- from the end back to the answer
+abbrev answered : tie.After-slice-known6 → tie.After-too-few
+answered c = c .before .before .before .before .before .before
+
 slice-aggregate-part : tie.Need-slice-aggregate-part
 slice-aggregate-part c = search needs
 
@@ -47,34 +63,42 @@ slice-aggregate-too-few c = search needs
 slice-aggregate-too-few-2 : tie.Need-slice-aggregate-too-few-2
 slice-aggregate-too-few-2 c = search needs
 
--- from the call back to where the records are sorted
-abbrev after-versions-by : tie.After-from4 → tie.After-versions-by
-after-versions-by c = c .before .before .before .before .before
-
--- from there back to where the columns are laid out
-abbrev after-part : tie.After-versions-by → tie.After-part
-after-part c = c .before .before .before .before .before .before .before
-
--- and from there to the start
-abbrev entry : tie.After-part → tie.Start
-entry c = c .before .before .before .before .before .before .before .before .before .before .before
-
 too-few-requires : tie.Need-too-few-requires
 too-few-requires c κs =
     let t = after-versions-by c in
     let s = after-part t .part .ensures in
     let p = entry (after-part t) .pre in
-    let o = marked-ordered _ _ _ _ _ (t .versions-by .ensures .0) _ (keyed-kind _ (p .0) _ _ _ _ _ _ _ s) in
-    (p .0, ordered-ground _ _ _ _ _ o (s .in-from) (p .5), p .1, s .in-supply, p .6, o, supply-ordered _ (p .0) _ _ _ _ _ _ _ s _ _ (p .7))
+    let o = marked-ordered _ _ _ _ _ (t .versions-by .ensures .0) _ (keyed-kind _ (p .0) _ _ _ _ _ _ _ s) in (
+      p .0,
+      ordered-ground _ _ _ _ _ o (s .in-from) (p .5),
+      p .1,
+      s .in-supply,
+      p .6,
+      o,
+      supply-ordered _ (p .0) _ _ _ _ _ _ _ s _ _ (p .7),
+      p .8,
+      p .9,
+      p .10,
+    )
+
+same-length : tie.Need-same-length
+same-length c = search needs
+
+same-length-2 : tie.Need-same-length-2
+same-length-2 c = search needs
+
+same-length-3 : tie.Need-same-length-3
+same-length-3 c = search needs
 
 returns : tie.Need-returns
 returns c =
-    let t = after-versions-by (c .before) in
+    let a = answered c in
+    let t = after-versions-by (a .before) in
     let s = after-part t .part .ensures in
     let p = entry (after-part t) .pre in
     few-first _ (p .0) _ _ _ _ _ _ _ s _ _ _ _ _ (p .6)
     (λ x h e. marked-on _ _ _ _ _ (t .versions-by .ensures .0) x h (marked-kind _ (p .0) _ _ _ _ _ _ _ s x h e))
-    (c .too-few .ensures)
+    (a .too-few .ensures)
 
 pub supplied-spec : {M : Type 1} → statement M
 supplied-spec =
@@ -95,4 +119,7 @@ supplied-spec =
     slice-aggregate-too-few
     slice-aggregate-too-few-2
     too-few-requires
+    same-length
+    same-length-2
+    same-length-3
     returns)

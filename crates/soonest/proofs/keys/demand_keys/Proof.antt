@@ -36,8 +36,8 @@ if-marked-requires c κs = search needs
 mul-out : tie.Need-mul-out Inv-loop μ-loop
 mul-out c = search needs
 
-array-write-out : tie.Need-array-write-out Inv-loop μ-loop
-array-write-out c = search needs
+slice-write-out : tie.Need-slice-write-out Inv-loop μ-loop
+slice-write-out c = search needs
 
 add-i : tie.Need-add-i Inv-loop μ-loop
 add-i c = search needs
@@ -48,8 +48,11 @@ loop-less c = search needs
 loop-again : tie.Need-loop-again Inv-loop μ-loop
 loop-again c = let s = c .before .before .before .before .loop in (omega arith, simp length-set (s .inv .1), filled-store _ (s .inv .2) (search needs) _ (c .if-marked .ensures))
 
+same-length : tie.Need-same-length Inv-loop μ-loop
+same-length c = search needs
+
 returns : tie.Need-returns Inv-loop μ-loop
 returns c = let s = c .before .loop in record { room = search needs; key = λ x h. s .inv .2 .entry x (omega arith) }
 
 pub demand-keys-spec : {M : Type 1} → statement M
-demand-keys-spec = tie.close (tie.spec Inv-loop μ-loop loop-holds shared-slice-read-if-marked mul-if-marked shared-slice-read-if-marked-2 if-marked-requires mul-out array-write-out add-i loop-less loop-again returns)
+demand-keys-spec = tie.close (tie.spec Inv-loop μ-loop loop-holds shared-slice-read-if-marked mul-if-marked shared-slice-read-if-marked-2 if-marked-requires mul-out slice-write-out add-i loop-less loop-again same-length returns)

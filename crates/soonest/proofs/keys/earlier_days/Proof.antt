@@ -37,8 +37,8 @@ earlier-requires c κs = search needs
 mul-out : tie.Need-mul-out Inv-loop μ-loop
 mul-out c = search needs
 
-array-write-out : tie.Need-array-write-out Inv-loop μ-loop
-array-write-out c = search needs
+slice-write-out : tie.Need-slice-write-out Inv-loop μ-loop
+slice-write-out c = search needs
 
 add-i : tie.Need-add-i Inv-loop μ-loop
 add-i c = search needs
@@ -49,8 +49,11 @@ loop-less c = search needs
 loop-again : tie.Need-loop-again Inv-loop μ-loop
 loop-again c = let s = c .before .before .before .before .loop in (omega arith, simp length-set (s .inv .1), filled-store _ (s .inv .2) (search needs) _ (c .earlier .ensures))
 
+same-length : tie.Need-same-length Inv-loop μ-loop
+same-length c = search needs
+
 returns : tie.Need-returns Inv-loop μ-loop
 returns c = let s = c .before .loop in record { room = search needs; day = λ x h. s .inv .2 .entry x (omega arith) }
 
 pub earlier-days-spec : {M : Type 1} → statement M
-earlier-days-spec = tie.close (tie.spec Inv-loop μ-loop loop-holds mul-earlier shared-slice-read-earlier mul-earlier-2 shared-slice-read-earlier-2 earlier-requires mul-out array-write-out add-i loop-less loop-again returns)
+earlier-days-spec = tie.close (tie.spec Inv-loop μ-loop loop-holds mul-earlier shared-slice-read-earlier mul-earlier-2 shared-slice-read-earlier-2 earlier-requires mul-out slice-write-out add-i loop-less loop-again same-length returns)

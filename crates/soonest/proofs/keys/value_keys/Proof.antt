@@ -39,8 +39,8 @@ if-in-row-requires c κs = search needs
 mul-out : tie.Need-mul-out Inv-loop μ-loop
 mul-out c = search needs
 
-array-write-out : tie.Need-array-write-out Inv-loop μ-loop
-array-write-out c = search needs
+slice-write-out : tie.Need-slice-write-out Inv-loop μ-loop
+slice-write-out c = search needs
 
 add-i : tie.Need-add-i Inv-loop μ-loop
 add-i c = search needs
@@ -51,8 +51,11 @@ loop-less c = search needs
 loop-again : tie.Need-loop-again Inv-loop μ-loop
 loop-again c = let s = c .before .before .before .before .loop in (omega arith, simp length-set (s .inv .1), filled-store _ (s .inv .2) (search needs) _ (c .if-in-row .ensures))
 
+same-length : tie.Need-same-length Inv-loop μ-loop
+same-length c = search needs
+
 returns : tie.Need-returns Inv-loop μ-loop
 returns c = let s = c .before .loop in record { room = search needs; key = λ x h. s .inv .2 .entry x (omega arith) }
 
 pub value-keys-spec : {M : Type 1} → statement M
-value-keys-spec = tie.close (tie.spec Inv-loop μ-loop loop-holds mul-if-in-row shared-slice-read-if-in-row mul-if-in-row-2 shared-slice-read-if-in-row-2 if-in-row-requires mul-out array-write-out add-i loop-less loop-again returns)
+value-keys-spec = tie.close (tie.spec Inv-loop μ-loop loop-holds mul-if-in-row shared-slice-read-if-in-row mul-if-in-row-2 shared-slice-read-if-in-row-2 if-in-row-requires mul-out slice-write-out add-i loop-less loop-again same-length returns)

@@ -1,8 +1,24 @@
--- `soonest::parts::unheld` meets its contract: a value in a row is demanded, and those in the other rows are supplied.
+-- `soonest::parts::unheld` meets its contract: a value that nobody has is a gap.
 use Rattle.soonest.proofs.Using.{given-gap, unheld-by}
 use borrow.Author.Needs.{needs}
 use Rattle.soonest.proofs.parts.unheld.Statement.{statement}
 use Rattle.soonest.proofs.parts.unheld.Tie as tie
+
+-- from the keys of the demands back to the start
+abbrev entry : tie.After-value-keys → tie.Start
+entry c = c .before .before .before .before .before .before .before .before .before .before .before .before
+
+-- from those of the supplies back to them
+abbrev demanded : tie.After-value-keys2 → tie.After-value-keys
+demanded c = c .before .before .before .before
+
+-- from the call of `gap` back to those of the supplies
+abbrev supplied : tie.After-gap-arg4 → tie.After-value-keys2
+supplied c = c .before .before .before .before .before .before
+
+-- from the end back to the call
+abbrev swept : tie.After-slice-known8 → tie.After-gap
+swept c = c .before .before .before .before
 
 value-keys-requires : tie.Need-value-keys-requires
 value-keys-requires c κs = search needs
@@ -10,41 +26,32 @@ value-keys-requires c κs = search needs
 value-keys-requires-2 : tie.Need-value-keys-requires-2
 value-keys-requires-2 c κs = search needs
 
-slice-aggregate-gap : tie.Need-slice-aggregate-gap
-slice-aggregate-gap c = search needs
-
-slice-aggregate-gap-2 : tie.Need-slice-aggregate-gap-2
-slice-aggregate-gap-2 c = search needs
-
-slice-aggregate-gap-3 : tie.Need-slice-aggregate-gap-3
-slice-aggregate-gap-3 c = search needs
-
-slice-aggregate-gap-4 : tie.Need-slice-aggregate-gap-4
-slice-aggregate-gap-4 c = search needs
-
--- from the call of `gap` back to the second of `value-keys`
-abbrev after-held : tie.After-need → tie.After-value-keys2
-after-held c = c .before .before .before .before
-
--- from there back to the first
-abbrev after-values : tie.After-value-keys2 → tie.After-value-keys
-after-values c = c .before
-
--- from the first back to the start
-abbrev entry : tie.After-value-keys → tie.Start
-entry c = c .before .before .before .before .before .before .before
-
 gap-requires : tie.Need-gap-requires
 gap-requires c κs =
-    let h = after-held c in
-    let p = entry (after-values h) .pre in
-    given-gap _ _ _ _ (p .1) (after-values h .value-keys .ensures .room) (h .value-keys2 .ensures .room) (search needs) (search needs)
+    let h = supplied c in
+    let k = demanded h in
+    let p = entry k .pre in
+    given-gap _ _ _ _ (p .1) (k .value-keys .ensures .room) (h .value-keys2 .ensures .room) (p .7) (p .8)
+
+same-length : tie.Need-same-length
+same-length c = search needs
+
+same-length-2 : tie.Need-same-length-2
+same-length-2 c = search needs
+
+same-length-3 : tie.Need-same-length-3
+same-length-3 c = search needs
+
+same-length-4 : tie.Need-same-length-4
+same-length-4 c = search needs
 
 returns : tie.Need-returns
 returns c =
-    let h = after-held (c .before .before .before) in
-    let p = entry (after-values h) .pre in
-    unheld-by _ _ _ _ (p .1) _ _ _ (after-values h .value-keys .ensures) (p .4) _ _ _ (h .value-keys2 .ensures) (p .0) (c .before .before .gap .ensures)
+    let a = swept c in
+    let h = supplied (a .before) in
+    let k = demanded h in
+    let p = entry k .pre in
+    unheld-by _ _ _ _ (p .1) _ _ _ (k .value-keys .ensures) (p .4) _ _ _ (h .value-keys2 .ensures) (p .0) (a .gap .ensures)
 
 pub unheld-spec : {M : Type 1} → statement M
 unheld-spec =
@@ -52,9 +59,9 @@ unheld-spec =
     (tie.spec
     value-keys-requires
     value-keys-requires-2
-    slice-aggregate-gap
-    slice-aggregate-gap-2
-    slice-aggregate-gap-3
-    slice-aggregate-gap-4
     gap-requires
+    same-length
+    same-length-2
+    same-length-3
+    same-length-4
     returns)
