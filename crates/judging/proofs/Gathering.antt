@@ -1,8 +1,8 @@
 -- What was found of a document and what its rules pick out, put together for the finder, for the count, and for the walk.
-use mathlib.Core.Path.{_≡_, _∙_}
+use mathlib.Core.Path.{_≡_}
 use mathlib.Core.Bool.{true, false, _||_}
 use mathlib.Core.List.{List}
-use Prim.Native.Nat.{ℕ, _-_, _≤_, _<_}
+use Prim.Native.Nat.{ℕ, _-_}
 use native.Mathlib.Omega.{arith}
 use lib.IntN.{ℤ}
 use lib.ListN.{length, getD, take, length-take}
@@ -16,7 +16,6 @@ use Rattle.values.specs.Represents.{Represents}
 use Rattle.orders.specs.Order.{InOrder}
 use Rattle.changes.specs.Merging.{Sorted}
 use Rattle.prepare.specs.declared.Prepared.{Prepared}
-use Rattle.prepare.specs.declared.Sifted.{Sifted}
 use Rattle.prepare.specs.Sifts.{Sifts}
 use Rattle.prepare.specs.Rows.{Rows}
 use Rattle.prepare.specs.Rowed.{Rowed}
@@ -30,6 +29,7 @@ use Rattle.orders.proofs.Lengths.{equally-long}
 use Rattle.soonest.specs.Given.{Given}
 use Rattle.survey.specs.Surveyed.{Surveyed}
 use Rattle.judging.specs.Knowing.{Known}
+use Rattle.judging.specs.Picking.{Picked}
 use Rattle.judging.specs.Armed.{Armed}
 use Rattle.judging.specs.Tally.{Traced}
 
@@ -51,6 +51,17 @@ module _ {doc : Doc} {kinds vkinds names parents begins ends : List ℕ} {values
   pub opened : InOrder (isVersion doc) begins (take (many - 0) opens) (length (take (many - 0) opens))
   opened = cut (isVersion doc) begins opens many (s .opened)
 
+-- what a rule picks out is all that it is judged by, if it is no reference
+pub picked-alone : {doc : Doc} {q r : Rule} {chosen rows reads : List ℕ} → (isReference r ≡ true → ⊥) → Sifts doc r chosen rows reads → Picked doc q r chosen rows reads rows reads
+picked-alone none s =
+    record { own = s; others-room = s .rows-are .room; helds-room = s .reads-are .room; others-are = λ e. absurd (none e); helds-are = λ e. absurd (none e) }
+
+-- else what the rule that it refers to picks out comes to it
+pub picked-both : {doc : Doc} {q r : Rule} {chosen rows reads left others helds : List ℕ} → Sifts doc r chosen rows reads → Sifts doc q left others helds
+    → Picked doc q r chosen rows reads others helds
+picked-both s t =
+    record { own = s; others-room = t .rows-are .room; helds-room = t .reads-are .room; others-are = λ e. t .rows-are; helds-are = λ e. t .reads-are }
+
 -- an order of the versions by their days is one that change days are counted along
 sorted : {doc : Doc} {day : ℕ → ℕ} {column order : List ℕ} → Lends (doc .size) day 0 column → InOrder (isVersion doc) column order (length order) → Sorted doc day order
 sorted {order = order} l o =
@@ -64,11 +75,9 @@ sorted {order = order} l o =
 module _ {doc : Doc} {kinds vkinds names parents begins ends : List ℕ} {values : List ℤ} {groups closes : List ℕ} (p q r : Rule)
     (k : Known doc kinds vkinds names parents begins ends values groups closes) (same : isReference r ≡ true → p ≡ q)
     (kind : isReference r ≡ true → (isKey q || isUnique q) ≡ true) where
-  module _ {opens : List ℕ} {own held : Sifted} (o : InOrder (isVersion doc) begins opens (length opens)) (mine : Sifts doc r own) (some : (x : Rule) × Sifts doc x held)
-      (theirs : isReference r ≡ true → Sifts doc q held) where
+  module _ {opens chosen rows reads others helds : List ℕ} (o : InOrder (isVersion doc) begins opens (length opens)) (x : Picked doc q r chosen rows reads others helds) where
     -- as the finder is given it
-    pub given : {at : Places} {reps : List ℕ} → Represents doc reps → Counted at
-        → Given doc p r at vkinds values begins ends reps groups opens closes (own .chosen) (own .row) (held .row)
+    pub given : {at : Places} {reps : List ℕ} → Represents doc reps → Counted at → Given doc p r at vkinds values begins ends reps groups opens closes chosen rows others
     given v c =
         record {
           vkind = k .values-held .vkind;
@@ -81,22 +90,22 @@ module _ {doc : Doc} {kinds vkinds names parents begins ends : List ℕ} {values
           closed = k .closed;
           few-opens = omega (arith, k .few, equally-long o (k .closed));
           few = k .few;
-          chosen-are = mine .chosen;
-          rows-are = mine .rows;
-          others-room = some .1 .rows .room;
-          others-are = λ e. rw (same e) (theirs e .rows, valued-only doc q (kind e));
+          chosen-are = x .own .chosen-are;
+          rows-are = x .own .rows-are;
+          others-room = x .others-room;
+          others-are = λ e. rw (same e) (x .others-are e, valued-only doc q (kind e));
           counted = c;
         }
 
     -- as change days are counted
-    pub traced : Traced doc p r opens closes (own .read) (held .read)
+    pub traced : Traced doc p r opens closes reads helds
     traced =
         record {
           by-begin = sorted (k .periods .begin) o;
           by-end = sorted (k .periods .end) (k .closed);
-          own-read = mine .read;
-          held-room = some .1 .read .room;
-          held-read = λ e. rw (same e) (theirs e .read);
+          own-read = x .own .reads-are;
+          held-room = x .helds-room;
+          held-read = λ e. rw (same e) (x .helds-are e);
         }
 
   -- both rules prepared, and the first laid out, as the walk is asked

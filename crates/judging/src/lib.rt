@@ -1,8 +1,10 @@
 // The verdict on one rule over the columns of a document: the soonest of its places, days or windows, that has an offender.
+use columns::LIMIT;
 use meaning::Rule;
 use meaning::Verdict;
 use numbers::index;
 use places::Places;
+use prepare::SMALL;
 use walking::Stop;
 ghost use mathlib.Core.Path.{_≡_};
 ghost use mathlib.Core.Bool.{true, _||_};
@@ -22,6 +24,7 @@ ghost use Rattle.places.specs.Placing.{Counted, Placed};
 ghost use Rattle.soonest.specs.Given.{Given};
 ghost use Rattle.soonest.specs.Soon.{Soon};
 ghost use Rattle.judging.specs.Knowing.{Known};
+ghost use Rattle.judging.specs.Picking.{Room, Picked};
 ghost use Rattle.judging.specs.Stopping.{Stopped};
 ghost use Rattle.judging.specs.Tally.{countOf, Traced};
 
@@ -35,8 +38,8 @@ pub struct Judged {
 }
 
 // The number of the soonest place at which rule r can fail: at no place before it does a version offend. What the rule picks out is in `chosen` and
-// `row`, and in `other` the rows of the rule that it refers to, if it is a reference. Cost: as `soonest::soonest`.
-fn soonest_place<'a>(
+// `row`, and in `others` the rows of the rule that it refers to, if it is a reference. Cost: as `soonest::soonest`.
+fn soonest_place(
     vkind: &[u8],
     value: &[i32],
     begin: &[u16],
@@ -45,15 +48,15 @@ fn soonest_place<'a>(
     group: &[u16],
     opens: &[u16],
     closes: &[u16],
-    chosen: &'a [u8],
-    row: &'a [u16],
-    other: &[u16],
+    chosen: &[u8],
+    row: &[u16],
+    others: &[u16],
     table: &[u16; 1201],
     at: Places,
     r: Rule,
 ) -> usize
-    requires { ⌜ MonthTable (now table) × (ruleFields r ≡ true) × ((doc : Doc) × (q : Rule) × Given doc q r at (now vkind) (now value) (now begin) (now end) (now rep) (now group) (now opens) (now closes) (now chosen) (now row) (now other)) ⌝ }
-    ensures { λ x. ⌜ ((doc : Doc) → (q : Rule) → Given doc q r at (now (vkind .entry)) (now (value .entry)) (now (begin .entry)) (now (end .entry)) (now (rep .entry)) (now (group .entry)) (now (opens .entry)) (now (closes .entry)) (now (chosen .entry)) (now (row .entry)) (now (other .entry)) → Soon doc q r at x) ⌝ }
+    requires { ⌜ MonthTable (now table) × (ruleFields r ≡ true) × ((doc : Doc) × (q : Rule) × Given doc q r at (now vkind) (now value) (now begin) (now end) (now rep) (now group) (now opens) (now closes) (now chosen) (now row) (now others)) ⌝ }
+    ensures { λ x. ⌜ ((doc : Doc) → (q : Rule) → Given doc q r at (now (vkind .entry)) (now (value .entry)) (now (begin .entry)) (now (end .entry)) (now (rep .entry)) (now (group .entry)) (now (opens .entry)) (now (closes .entry)) (now (chosen .entry)) (now (row .entry)) (now (others .entry)) → Soon doc q r at x) ⌝ }
 {
     index(soonest::soonest(
         vkind,
@@ -66,7 +69,7 @@ fn soonest_place<'a>(
         closes,
         chosen,
         row,
-        other,
+        others,
         table,
         at,
         r,
@@ -163,9 +166,10 @@ fn looks(at: Places, first: usize, stop: Stop) -> usize {
     at.count - first
 }
 
-// The verdict on rule r, which refers to q if it is a reference: from the soonest place at which it can fail on, the places are walked.
-// Cost: what the rule picks out, the soonest place, the walk from there on, and the count.
-fn judge_columns(
+// The verdict on rule r, which refers to q if it is a reference, by what the rule picks out, `chosen`, `row` and `read`, and by the rows and the
+// marks of the rule that it refers to, `other` and `held`: from the soonest place at which it can fail on, the places are walked.
+// Cost: the soonest place, the walk from there on, and the count.
+fn judge_found(
     kind: &[u8],
     vkind: &[u8],
     name: &[u16],
@@ -177,16 +181,19 @@ fn judge_columns(
     group: &[u16],
     opens: &[u16],
     closes: &[u16],
+    chosen: &[u8],
+    row: &[u16],
+    read: &[u8],
+    other: &[u16],
+    held: &[u8],
     q: Rule,
     r: Rule,
 ) -> Judged
-    requires { ⌜ (ruleFields r ≡ true) × (isReference r ≡ true → (ruleFields q ≡ true) × ((isKey q || isUnique q) ≡ true)) × ((doc : Doc) × Known doc (now kind) (now vkind) (now name) (now parent) (now begin) (now end) (now value) (now group) (now closes) × Represents doc (now rep) × InOrder (isVersion doc) (now begin) (now opens) (length (now opens))) ⌝ }
-    ensures { λ x. ⌜ ((doc : Doc) → (p : Rule) → Known doc (now (kind .entry)) (now (vkind .entry)) (now (name .entry)) (now (parent .entry)) (now (begin .entry)) (now (end .entry)) (now (value .entry)) (now (group .entry)) (now (closes .entry)) → Represents doc (now (rep .entry)) → InOrder (isVersion doc) (now (begin .entry)) (now (opens .entry)) (length (now (opens .entry))) → (isReference r ≡ true → p ≡ q) → x .verdict ≡ judged doc p r) ⌝ }
+    requires { ⌜ (ruleFields r ≡ true) × (isReference r ≡ true → (ruleFields q ≡ true) × ((isKey q || isUnique q) ≡ true)) × ((doc : Doc) × Known doc (now kind) (now vkind) (now name) (now parent) (now begin) (now end) (now value) (now group) (now closes) × Represents doc (now rep) × InOrder (isVersion doc) (now begin) (now opens) (length (now opens)) × Picked doc q r (now chosen) (now row) (now read) (now other) (now held)) ⌝ }
+    ensures { λ x. ⌜ ((doc : Doc) → (p : Rule) → Known doc (now (kind .entry)) (now (vkind .entry)) (now (name .entry)) (now (parent .entry)) (now (begin .entry)) (now (end .entry)) (now (value .entry)) (now (group .entry)) (now (closes .entry)) → Represents doc (now (rep .entry)) → InOrder (isVersion doc) (now (begin .entry)) (now (opens .entry)) (length (now (opens .entry))) → Picked doc q r (now (chosen .entry)) (now (row .entry)) (now (read .entry)) (now (other .entry)) (now (held .entry)) → (isReference r ≡ true → p ≡ q) → x .verdict ≡ judged doc p r) ⌝ }
 {
     let table = calendar::starts();
     let at = places::places_of(&table, r);
-    let own = prepare::sift(kind, vkind, name, parent, value, r);
-    let held = prepare::sift_referred(kind, vkind, name, parent, value, own, q, r);
     let first = soonest_place(
         vkind,
         value,
@@ -196,9 +203,9 @@ fn judge_columns(
         group,
         opens,
         closes,
-        &own.chosen,
-        &own.row,
-        &held.row,
+        chosen,
+        row,
+        other,
         &table,
         at,
         r,
@@ -220,19 +227,159 @@ fn judge_columns(
         q,
         r,
     );
-    let verdict = tell(
-        begin,
-        end,
-        opens,
-        closes,
-        &own.read,
-        &held.read,
-        at,
-        r,
-        stop,
-    );
+    let verdict = tell(begin, end, opens, closes, read, held, at, r, stop);
     let looked = looks(at, first, stop);
     Judged { verdict, looked }
+}
+
+// The same, with what the rule picks out put into the lent `chosen`, `row` and `read`, and, if it is a reference, what the rule picks out that it
+// refers to into `left`, `other` and `held`. Cost: what one rule or two pick out, and that of `judge_found`.
+fn judge_in(
+    kind: &[u8],
+    vkind: &[u8],
+    name: &[u16],
+    parent: &[u16],
+    begin: &[u16],
+    end: &[u16],
+    value: &[i32],
+    rep: &[u16],
+    group: &[u16],
+    opens: &[u16],
+    closes: &[u16],
+    q: Rule,
+    r: Rule,
+    chosen: &mut [u8],
+    row: &mut [u16],
+    read: &mut [u8],
+    left: &mut [u8],
+    other: &mut [u16],
+    held: &mut [u8],
+) -> Judged
+    requires { ⌜ (ruleFields r ≡ true) × (isReference r ≡ true → (ruleFields q ≡ true) × ((isKey q || isUnique q) ≡ true)) × Room (length (now kind)) (now chosen) (now row) (now read) (now left) (now other) (now held) × ((doc : Doc) × Known doc (now kind) (now vkind) (now name) (now parent) (now begin) (now end) (now value) (now group) (now closes) × Represents doc (now rep) × InOrder (isVersion doc) (now begin) (now opens) (length (now opens))) ⌝ }
+    ensures { λ x. ⌜ ((doc : Doc) → (p : Rule) → Known doc (now (kind .entry)) (now (vkind .entry)) (now (name .entry)) (now (parent .entry)) (now (begin .entry)) (now (end .entry)) (now (value .entry)) (now (group .entry)) (now (closes .entry)) → Represents doc (now (rep .entry)) → InOrder (isVersion doc) (now (begin .entry)) (now (opens .entry)) (length (now (opens .entry))) → (isReference r ≡ true → p ≡ q) → x .verdict ≡ judged doc p r) ⌝ }
+{
+    prepare::sift(kind, vkind, name, parent, value, r, chosen, row, read);
+    if r.kind != 3 {
+        return judge_found(
+            kind,
+            vkind,
+            name,
+            parent,
+            begin,
+            end,
+            value,
+            rep,
+            group,
+            opens,
+            closes,
+            chosen,
+            row,
+            read,
+            row,
+            read,
+            q,
+            r,
+        );
+    }
+    prepare::sift(kind, vkind, name, parent, value, q, left, other, held);
+    judge_found(
+        kind,
+        vkind,
+        name,
+        parent,
+        begin,
+        end,
+        value,
+        rep,
+        group,
+        opens,
+        closes,
+        chosen,
+        row,
+        read,
+        other,
+        held,
+        q,
+        r,
+    )
+}
+
+// The same, with arrays of its own for what the rules pick out: small ones where they serve, which are soon cleared.
+// Cost: what the rules pick out, the soonest place, the walk from there on, and the count.
+fn judge_columns(
+    kind: &[u8],
+    vkind: &[u8],
+    name: &[u16],
+    parent: &[u16],
+    begin: &[u16],
+    end: &[u16],
+    value: &[i32],
+    rep: &[u16],
+    group: &[u16],
+    opens: &[u16],
+    closes: &[u16],
+    q: Rule,
+    r: Rule,
+) -> Judged
+    requires { ⌜ (ruleFields r ≡ true) × (isReference r ≡ true → (ruleFields q ≡ true) × ((isKey q || isUnique q) ≡ true)) × ((doc : Doc) × Known doc (now kind) (now vkind) (now name) (now parent) (now begin) (now end) (now value) (now group) (now closes) × Represents doc (now rep) × InOrder (isVersion doc) (now begin) (now opens) (length (now opens))) ⌝ }
+    ensures { λ x. ⌜ ((doc : Doc) → (p : Rule) → Known doc (now (kind .entry)) (now (vkind .entry)) (now (name .entry)) (now (parent .entry)) (now (begin .entry)) (now (end .entry)) (now (value .entry)) (now (group .entry)) (now (closes .entry)) → Represents doc (now (rep .entry)) → InOrder (isVersion doc) (now (begin .entry)) (now (opens .entry)) (length (now (opens .entry))) → (isReference r ≡ true → p ≡ q) → x .verdict ≡ judged doc p r) ⌝ }
+{
+    if kind.len() <= SMALL {
+        let mut chosen = [0u8; SMALL];
+        let mut row = [0u16; SMALL];
+        let mut read = [0u8; SMALL];
+        let mut left = [0u8; SMALL];
+        let mut other = [0u16; SMALL];
+        let mut held = [0u8; SMALL];
+        return judge_in(
+            kind,
+            vkind,
+            name,
+            parent,
+            begin,
+            end,
+            value,
+            rep,
+            group,
+            opens,
+            closes,
+            q,
+            r,
+            &mut chosen,
+            &mut row,
+            &mut read,
+            &mut left,
+            &mut other,
+            &mut held,
+        );
+    }
+    let mut chosen = [0u8; LIMIT];
+    let mut row = [0u16; LIMIT];
+    let mut read = [0u8; LIMIT];
+    let mut left = [0u8; LIMIT];
+    let mut other = [0u16; LIMIT];
+    let mut held = [0u8; LIMIT];
+    judge_in(
+        kind,
+        vkind,
+        name,
+        parent,
+        begin,
+        end,
+        value,
+        rep,
+        group,
+        opens,
+        closes,
+        q,
+        r,
+        &mut chosen,
+        &mut row,
+        &mut read,
+        &mut left,
+        &mut other,
+        &mut held,
+    )
 }
 
 // The same over the first n entries of the columns, with the survey of the document that they hold.

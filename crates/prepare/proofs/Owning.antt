@@ -3,24 +3,23 @@ use mathlib.Core.Path.{_≡_, refl, sym, _∙_, ap}
 use mathlib.Core.Logic.{⊎-elim}
 use mathlib.Core.Bool.{Bool, true, false, _&&_, cond, and-true, and-comm, or-false}
 use mathlib.Core.List.{List}
-use Prim.Native.Nat.{ℕ, zero, suc, _+_, _≤_, _<_}
+use Prim.Native.Nat.{ℕ, suc, _+_, _≤_, _<_}
 use native.Mathlib.Omega.{arith}
 use lib.Dec.{eqb}
 use lib.ListN.{length, getD, set}
 use borrow.Author.Tests.{eq-eqb, ne-eqb, eqb-true}
 use Rattle.meaning.specs.declared.Rule.{Rule}
 use Rattle.meaning.specs.Block.{limit}
-use Rattle.meaning.specs.Document.{Doc, isVersion, above}
+use Rattle.meaning.specs.Document.{Doc, above}
 use Rattle.meaning.specs.Walk.{any}
-use Rattle.meaning.specs.Select.{pathTo, selected, fieldOf, readsOwn}
+use Rattle.meaning.specs.Select.{selected, fieldOf, readsOwn}
 use Rattle.meaning.proofs.Basics.{went, le-or-lt, clear, never, tests-same, and-l, and-r, both, or-r}
 use Rattle.meaning.proofs.Walks.{any-some, any-none}
 use Rattle.meaning.proofs.Says.{says}
 use Rattle.meaning.proofs.Selects.{field-version}
 use Rattle.columns.specs.Lent.{Tree}
-use Rattle.marks.specs.Marks.{Marks}
 use Rattle.prepare.specs.Rows.{wants, inRow}
-use Rattle.prepare.specs.Keys.{Keys}
+use Rattle.prepare.specs.Sifts.{Sifts}
 use Rattle.prepare.specs.Descent.{Left, Descends}
 use Rattle.prepare.specs.Acting.{ownerOf, Acts}
 use Rattle.prepare.proofs.Descending.{left-other, left-selected, left-marks, down-top, down-below}
@@ -205,6 +204,10 @@ module _ (doc : Doc) (r : Rule) where
       record { passed = filled-store _ (s .passed) a x (t .passed); rowed = filled-store _ (s .rowed) b y (t .rowed); marked = filled-store _ (s .marked) c z (t .marked) }
 
   pub sifting-all : (i : ℕ) (chosen row read : List ℕ) → Sifting doc r i chosen row read → doc .size ≤ i → doc .size ≤ length chosen → doc .size ≤ length row → doc .size ≤ length read
-      → Marks (selected doc r) (doc .size) chosen × Keys doc r row × Marks (readsOwn doc r) (doc .size) read
+      → Sifts doc r chosen row read
   sifting-all i chosen row read s h a b c =
-      (left-marks doc r i chosen (s .passed) h a, filled-keys doc r i row (s .rowed) h b, filled-marks (readsOwn doc r) (doc .size) i read (s .marked) h c)
+      record {
+        chosen-are = left-marks doc r i chosen (s .passed) h a;
+        rows-are = filled-keys doc r i row (s .rowed) h b;
+        reads-are = filled-marks (readsOwn doc r) (doc .size) i read (s .marked) h c;
+      }

@@ -4,6 +4,7 @@ use meaning::Rule;
 ghost use mathlib.Core.Path.{_≡_};
 ghost use mathlib.Core.Bool.{true};
 ghost use Prim.Native.Nat.{_≤_};
+ghost use lib.ListN.{length};
 ghost use Rattle.meaning.specs.declared.Rule.{Rule};
 ghost use Rattle.meaning.specs.Document.{Doc};
 ghost use Rattle.meaning.specs.Rules.{isReference};
@@ -35,15 +36,9 @@ pub struct Prepared {
     pub read: [u8; LIMIT],
 }
 
-// What a rule picks out of a document: a mark on each version that it selects, for each field version that matters to its kind the version in
-// whose row it is, LIMIT for every other record, and a mark on each version that it reads.
-pub struct Sifted {
-    pub chosen: [u8; LIMIT],
-    pub row: [u16; LIMIT],
-    pub read: [u8; LIMIT],
-}
-
-// What the rule picks out. Cost: one pass over the records.
+// What the rule picks out of a document, put into three lent columns: a mark on each version that it selects, for each field version that matters to
+// its kind the version in whose row it is, LIMIT for every other record, and a mark on each version that it reads. They are lent and not returned, so
+// that nothing is copied; what they held before does not matter. Cost: one pass over the records.
 pub fn sift(
     kind: &[u8],
     vkind: &[u8],
@@ -51,44 +46,22 @@ pub fn sift(
     parent: &[u16],
     value: &[i32],
     rule: Rule,
-) -> Sifted
-    requires { ⌜ (rule .steps ≤ 8) × ((doc : Doc) × Tree doc (now kind) (now name) (now parent) × Values doc (now kind) (now vkind) (now value) × Judgeable doc) ⌝ }
-    ensures { λ r. ⌜ ((doc : Doc) → Tree doc (now (kind .entry)) (now (name .entry)) (now (parent .entry)) → Values doc (now (kind .entry)) (now (vkind .entry)) (now (value .entry)) → Sifts doc rule r) ⌝ }
+    chosen: &mut [u8],
+    row: &mut [u16],
+    read: &mut [u8],
+)
+    requires { ⌜ (rule .steps ≤ 8) × (length (now kind) ≤ length (now chosen)) × (length (now kind) ≤ length (now row)) × (length (now kind) ≤ length (now read)) × ((doc : Doc) × Tree doc (now kind) (now name) (now parent) × Values doc (now kind) (now vkind) (now value) × Judgeable doc) ⌝ }
+    ensures { λ _. ⌜ ((doc : Doc) → Tree doc (now (kind .entry)) (now (name .entry)) (now (parent .entry)) → Values doc (now (kind .entry)) (now (vkind .entry)) (now (value .entry)) → Sifts doc rule (now (chosen .exit)) (now (row .exit)) (now (read .exit))) ⌝ }
 {
     let path = rule.path;
-    let mut chosen = [0u8; LIMIT];
-    let mut row = [0u16; LIMIT];
-    let mut read = [0u8; LIMIT];
     let mut i = 0;
     while i < kind.len() {
-        let role = roles::role_of(kind, vkind, name, parent, value, &chosen, &path, rule, i);
+        let role = roles::role_of(kind, vkind, name, parent, value, chosen, &path, rule, i);
         chosen[i] = role.left;
         row[i] = role.row;
         read[i] = role.read;
         i += 1;
     }
-    Sifted { chosen, row, read }
-}
-
-// What the rule picks out to which a reference refers; what the rule itself does if it is none.
-pub fn sift_referred(
-    kind: &[u8],
-    vkind: &[u8],
-    name: &[u16],
-    parent: &[u16],
-    value: &[i32],
-    own: Sifted,
-    q: Rule,
-    r: Rule,
-) -> Sifted
-    requires { ⌜ (isReference r ≡ true → q .steps ≤ 8) × ((doc : Doc) × Tree doc (now kind) (now name) (now parent) × Values doc (now kind) (now vkind) (now value) × Judgeable doc) ⌝ }
-    ensures referred { λ x. ⌜ ((doc : Doc) → Tree doc (now (kind .entry)) (now (name .entry)) (now (parent .entry)) → Values doc (now (kind .entry)) (now (vkind .entry)) (now (value .entry)) → isReference r ≡ true → Sifts doc q x) ⌝ }
-    ensures some { λ x. ⌜ ((doc : Doc) → Tree doc (now (kind .entry)) (now (name .entry)) (now (parent .entry)) → Values doc (now (kind .entry)) (now (vkind .entry)) (now (value .entry)) → Sifts doc r own → ((p : Rule) × Sifts doc p x)) ⌝ }
-{
-    if r.kind != 3 {
-        return own;
-    }
-    sift(kind, vkind, name, parent, value, q)
 }
 
 // The rule prepared. Cost: six passes over the records.
