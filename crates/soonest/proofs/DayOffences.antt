@@ -19,7 +19,7 @@ use Rattle.meaning.proofs.Selects.{selected-here}
 use Rattle.prepare.specs.Rows.{wantsBy, wants, inRow}
 use Rattle.groups.proofs.Gathering.{row-selected}
 use Rattle.soonest.proofs.Offences.{Lacks, Twice, Shared, Unmatched, Some}
-use Rattle.soonest.proofs.Tallies.{some, two}
+use Rattle.parts.proofs.Tallies.{some, two}
 use Rattle.soonest.proofs.Held.{heldBy, held, row-here, held-one, held-lacks, held-some, held-twice, gives-held, values-held}
 use Rattle.soonest.proofs.Nested.{Nested}
 

@@ -24,8 +24,8 @@ use Rattle.places.specs.Placing.{windowAt}
 use Rattle.soonest.specs.Soon.{offendsAt, Soon}
 use Rattle.soonest.specs.Lined.{Lined, ChosenIn, RowsIn}
 use Rattle.crowds.specs.Crowds.{ByMany}
-use Rattle.soonest.specs.Parts.{ByTwice, ByShared, ByFew}
-use Rattle.soonest.specs.Matched.{ByUnmatched}
+use Rattle.parts.specs.Parts.{ByTwice, ByShared, ByFew}
+use Rattle.parts.specs.Matched.{ByUnmatched}
 use Rattle.soonest.proofs.Nested.{meets-nested}
 use Rattle.soonest.proofs.DayOffences.{key-offence, unique-offence, reference-offence, cardinality-offence, datatype-offence}
 use Rattle.soonest.proofs.Sweeping.{row-is, some-soon, twice-soon, shared-soon, few-soon, many-soon, lacks-soon, unmatched-soon}

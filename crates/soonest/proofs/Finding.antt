@@ -20,10 +20,10 @@ use Rattle.crowds.specs.Crowds.{ByMany, Ordered}
 use Rattle.distinct.specs.Classes.{Valued}
 use Rattle.distinct.specs.Values.{ByManyValues}
 use Rattle.places.specs.declared.Places.{Places}
-use Rattle.soonest.specs.Lined.{Ground}
-use Rattle.soonest.specs.Keyed.{Numbered}
-use Rattle.soonest.specs.Parts.{ByTwice, ByShared, ByUnheld, ByFew, ByFewValues, Small}
-use Rattle.soonest.specs.Matched.{ByUnmatched}
+use Rattle.parts.specs.Ground.{Ground}
+use Rattle.parts.specs.Keyed.{Numbered}
+use Rattle.parts.specs.Parts.{ByTwice, ByShared, ByUnheld, ByFew, ByFewValues, Small}
+use Rattle.parts.specs.Matched.{ByUnmatched}
 use Rattle.soonest.specs.Soon.{Soon}
 use Rattle.soonest.specs.Swept.{Swept}
 use Rattle.soonest.proofs.Sweeping.{ordered, grounded, row-of}

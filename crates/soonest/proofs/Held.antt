@@ -14,7 +14,7 @@ use Rattle.meaning.proofs.Selects.{version-here}
 use Rattle.prepare.specs.Rows.{wants, inRow}
 use Rattle.groups.proofs.Gathering.{row-version}
 use Rattle.soonest.proofs.Offences.{Lacks, Twice, Some}
-use Rattle.soonest.proofs.Tallies.{counted, some, two, count-less}
+use Rattle.parts.proofs.Tallies.{counted, some, two, count-less}
 
 -- f is in the row of v, and present
 abbrev pub heldBy : Doc → (ℕ → Bool) → Rule → ℕ → ℕ → Bool

@@ -1,19 +1,12 @@
 -- The laws behind the finder.
 pub mod Offences
-pub mod Tallies
 pub mod Held
 pub mod Nested
 pub mod DayOffences
 pub mod WindowOffences
-pub mod Using
-pub mod Supplied
 pub mod Sweeping
 pub mod DaySoon
 pub mod Valuing
 pub mod WindowSoon
-pub mod Earlier
 pub mod Finding
 pub mod Lining
-pub mod Resorting
-pub mod Matching
-pub mod Parting

@@ -33,11 +33,10 @@ use Rattle.places.proofs.Presence.{low-rises, high-rises}
 use Rattle.steps.specs.Places.{Closing}
 use Rattle.steps.specs.Reaching.{Reaches}
 use Rattle.soonest.specs.Lined.{Line, Begun, Lined, ChosenIn, RowsIn}
-use Rattle.soonest.specs.Keyed.{Earlier}
-use Rattle.soonest.specs.Given.{Given, Reaching}
+use Rattle.soonest.specs.Given.{Given, Reaching, Earlier}
 use Rattle.soonest.specs.Soon.{Soon}
 use Rattle.soonest.specs.Swept.{Asks, Swept}
-use Rattle.soonest.proofs.Using.{given-least}
+use Rattle.parts.proofs.Using.{given-least}
 use Rattle.soonest.proofs.Sweeping.{begun-ground, row-version, row-is, row-held}
 use Rattle.soonest.proofs.WindowSoon.{datatype-windows}
 

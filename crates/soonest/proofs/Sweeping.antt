@@ -24,15 +24,16 @@ use Rattle.passes.specs.Passes.{at, On, Present, ByLeast}
 use Rattle.places.specs.declared.Places.{Places}
 use Rattle.places.specs.Placing.{windowAt}
 use Rattle.places.proofs.Presence.{meets-there, there-meets, meets-as}
-use Rattle.soonest.specs.Lined.{Ground, Line, Begun, Lined, ChosenIn, RowsIn}
+use Rattle.parts.specs.Ground.{Ground}
+use Rattle.soonest.specs.Lined.{Line, Begun, Lined, ChosenIn, RowsIn}
 use Rattle.crowds.specs.Crowds.{keyedAt, present, ByMany, Ordered}
-use Rattle.soonest.specs.Parts.{ByTwice, ByShared, ByUnheld, ByFew}
-use Rattle.soonest.specs.Matched.{ByUnmatched}
+use Rattle.parts.specs.Parts.{ByTwice, ByShared, ByUnheld, ByFew}
+use Rattle.parts.specs.Matched.{ByUnmatched}
 use Rattle.groups.specs.Groups.{Groups, inGroup}
 use Rattle.groups.specs.Classes.{classAt}
 use Rattle.groups.proofs.Gathering.{class-under, group-under}
 use Rattle.soonest.proofs.Offences.{Lacks, Twice, Shared, Unheld, Unmatched, Some}
-use Rattle.soonest.proofs.Tallies.{uncounted}
+use Rattle.parts.proofs.Tallies.{uncounted}
 
 -- what is in a row is a version, and so is the one whose row it is
 module _ (doc : Doc) (r : Rule) where

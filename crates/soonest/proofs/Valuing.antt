@@ -29,7 +29,7 @@ use Rattle.distinct.specs.Values.{lowestAt, values, ByManyValues}
 use Rattle.places.specs.declared.Places.{Places}
 use Rattle.places.specs.Placing.{windowAt}
 use Rattle.soonest.specs.Lined.{Lined, ChosenIn, RowsIn}
-use Rattle.soonest.specs.Parts.{ByFewValues}
+use Rattle.parts.specs.Parts.{ByFewValues}
 use Rattle.soonest.proofs.WindowOffences.{under-present, present-under}
 use Rattle.soonest.proofs.Sweeping.{there-is, on-order, here}
 

@@ -9,8 +9,6 @@ use lib.IntN.{pos}
 use lib.Dec.{leb, eqb}
 use lib.ListN.{getD}
 use borrow.Author.Tests.{leb-false, ltb-true, not-true}
-use Rattle.meaning.specs.declared.Found.{Found}
-use Rattle.meaning.specs.declared.Found.the-variants.{At, Nothing}
 use Rattle.meaning.specs.declared.Rule.{Rule}
 use Rattle.meaning.specs.Walk.{any, count, first}
 use Rattle.meaning.specs.Document.{Doc, numberOf}
@@ -27,6 +25,7 @@ use Rattle.groups.specs.Groups.{inGroup}
 use Rattle.groups.proofs.Gathering.{row-version, row-selected, group-under, under-group}
 use Rattle.steps.specs.Reaching.{wrongAfter, Reaches}
 use Rattle.steps.proofs.Windowed.{offends-in}
+use Rattle.parts.proofs.Tallies.{some, two}
 use Rattle.soonest.proofs.Offences.{Lacks, Shared, Unheld, Some}
 
 -- to a non-sequenced rule the valued field versions matter
@@ -166,57 +165,6 @@ count-within f g h i (suc n) =
     (λ (x : g i ≡ false). let b : count g i (suc n) ≡ count g (suc i) n = rw x in omega arith)
     (went (g i)))
     (went (f i))
-
-module _ (f : ℕ → Bool) where
-  -- what is counted is there
-  pub counted-one : (i n : ℕ) → 0 < count f i n → (k : ℕ) × Passes f i n k
-  unfolding count
-  counted-one i zero h = absurd (omega arith)
-  counted-one i (suc n) h =
-      ⊎-elim
-      (λ y. (i, record { from = omega arith; below = omega arith; passes = y }))
-      (λ z. let r = counted-one (suc i) n (rw z at h) in (r .0, record { from = omega (arith, r .1 .from); below = omega (arith, r .1 .below); passes = r .1 .passes }))
-      (went (f i))
-
-  -- two that pass, the one below the other
-  pub record Pair (i n : ℕ) : Type 0 where
-    pub one : ℕ
-    pub two : ℕ
-    pub order : one < two
-    pub first-passes : Passes f i n one
-    pub second-passes : Passes f i n two
-
-  -- more than one are two
-  pub counted-two : (i n : ℕ) → 1 < count f i n → Pair i n
-  unfolding count
-  counted-two i zero h = absurd (omega arith)
-  counted-two i (suc n) h =
-      ⊎-elim
-      (λ y.
-      let l : 1 < suc (count f (suc i) n) = rw y at h in
-      let r = counted-one (suc i) n (omega arith) in
-      record {
-        one = i;
-        two = r .0;
-        order = omega (arith, r .1 .from);
-        first-passes = record { from = omega arith; below = omega arith; passes = y };
-        second-passes = further i n (r .0) (r .1);
-      })
-      (λ z.
-      let r = counted-two (suc i) n (rw z at h) in
-      record { one = r .one; two = r .two; order = r .order; first-passes = further i n (r .one) (r .first-passes); second-passes = further i n (r .two) (r .second-passes) })
-      (went (f i))
-    where
-      further : (i n k : ℕ) → Passes f (suc i) n k → Passes f i (suc n) k
-      further i n k s = record { from = omega (arith, s .from); below = omega (arith, s .below); passes = s .passes }
-
-  -- of those that pass, one is the lowest
-  pub lowest-of : (i n k : ℕ) → Passes f i n k → (j : ℕ) × Lowest f i n j
-  lowest-of i n k s = go (first f i n) refl
-    where
-      go : (x : Found) → first f i n ≡ x → (j : ℕ) × Lowest f i n j
-      go (At j) e = (j, first-found f i n j e)
-      go Nothing e = absurd (clear (s .passes) (first-nothing f i n e k (s .from) (s .below)))
 
 -- v is selected and present, and so is one under its item number
 pub record SomeAll (doc : Doc) (p : ℕ → Bool) (r : Rule) : Type 0 where
@@ -364,7 +312,7 @@ module _ (doc : Doc) (p : ℕ → Bool) (r : Rule) (high : ℕ) (s : More doc p 
   -- one is present
   pub more-one : SomeAll doc p r
   more-one =
-      let w = counted-one there 0 (doc .size) (omega (arith, s .more)) in
+      let w = some there 0 (doc .size) (omega (arith, s .more)) in
       let a = parts (w .0) (w .1 .passes) in
       record { v = s .v; f = w .0; chosen = s .chosen; here = s .here; one = a .0; one-here = a .1 }
 
@@ -378,16 +326,16 @@ module _ (doc : Doc) (p : ℕ → Bool) (r : Rule) (high : ℕ) (s : More doc p 
   -- two are, where one is allowed
   pub more-two : 1 ≤ high → TwiceAll doc p r
   more-two l =
-      let w = counted-two there 0 (doc .size) (omega (arith, s .more)) in
-      let a = parts (w .one) (w .first-passes .passes) in
-      let b = parts (w .two) (w .second-passes .passes) in
+      let w = two there 0 (doc .size) (omega (arith, s .more)) in
+      let a = parts (w .one) (w .one-passes .passes) in
+      let b = parts (w .other) (w .other-passes .passes) in
       record {
         v = s .v;
         f = w .one;
-        g = w .two;
+        g = w .other;
         chosen = s .chosen;
         here = s .here;
-        apart = λ e. omega (arith, w .order);
+        apart = λ e. omega (arith, w .less);
         first = a .0;
         second = b .0;
         first-here = a .1;

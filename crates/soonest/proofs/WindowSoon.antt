@@ -32,7 +32,7 @@ use Rattle.soonest.specs.Lined.{Begun, Lined, ChosenIn, RowsIn}
 use Rattle.soonest.specs.Given.{Reaching}
 use Rattle.crowds.specs.Crowds.{ByMany}
 use Rattle.distinct.specs.Values.{ByManyValues}
-use Rattle.soonest.specs.Parts.{ByShared, ByUnheld, ByFew, ByFewValues}
+use Rattle.parts.specs.Parts.{ByShared, ByUnheld, ByFew, ByFewValues}
 use Rattle.soonest.proofs.Nested.{meets-nested}
 use Rattle.soonest.proofs.WindowOffences.{key-offence, unique-offence, reference-offence, cardinality-offence, counted-offence, fewer-present, datatype-offence}
 use Rattle.soonest.proofs.Sweeping.{stands, row-is, row-held, row-chosen, row-here, shared-soon, few-numbered, many-numbered, lacks-soon, unheld-soon}

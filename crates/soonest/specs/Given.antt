@@ -48,3 +48,8 @@ pub record Reaching (doc : Doc) (r : Rule) (places : Places) (order until : List
   pub reaches : Reaches doc r reach
   pub room : doc .size ≤ length until
   pub high : (j : ℕ) → j < length order → High places (least (at reach (at order j)) (doc .end (at order j))) (at until (at order j))
+
+-- each of n records has the earlier of two days
+pub record Earlier (n : ℕ) (ones others days : List ℕ) : Type 0 where
+  pub room : n ≤ length days
+  pub day : (x : ℕ) → x < n → at days x ≡ least (at ones x) (at others x)

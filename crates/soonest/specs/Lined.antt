@@ -13,13 +13,6 @@ use Rattle.passes.specs.Passes.{at, Rising}
 use Rattle.places.specs.declared.Places.{Places}
 use Rattle.places.specs.Placing.{Low, High}
 
--- an order of some of n records that rises by lo, and both ends of their places
-pub record Ground (order lo hi : List ℕ) (n : ℕ) : Type 0 where
-  pub covered : (j : ℕ) → j < length order → at order j < n
-  pub rising : Rising order lo
-  pub lo-room : n ≤ length lo
-  pub hi-room : n ≤ length hi
-
 -- the order has the members, each once, and no other record, and rises by the column
 pub record Line (member : ℕ → Bool) (column order : List ℕ) : Type 0 where
   pub inside : (j : ℕ) → j < length order → member (at order j) ≡ true

@@ -1,10 +1,9 @@
 // The soonest window of a non-sequenced rule in which it can fail, by its kind.
-use crate::by_value;
-use crate::counts;
-use crate::keys;
-use crate::on_days;
-use crate::parts;
-use crate::sooner;
+use parts::by_value;
+use parts::counts;
+use parts::holders;
+use parts::keys;
+use parts::sooner;
 ghost use mathlib.Core.Path.{_≡_};
 ghost use mathlib.Core.Bool.{false};
 ghost use mathlib.Core.List.{List};
@@ -18,9 +17,9 @@ ghost use Rattle.groups.specs.Groups.{Groups};
 ghost use Rattle.groups.specs.Classes.{classAt};
 ghost use Rattle.passes.specs.Passes.{at};
 ghost use Rattle.places.specs.declared.Places.{Places};
-ghost use Rattle.soonest.specs.Keyed.{Numbered};
-ghost use Rattle.soonest.specs.Lined.{Ground};
-ghost use Rattle.soonest.specs.Parts.{ByShared, ByFew, Small, Room};
+ghost use Rattle.parts.specs.Keyed.{Numbered};
+ghost use Rattle.parts.specs.Ground.{Ground};
+ghost use Rattle.parts.specs.Parts.{ByShared, ByFew, Small, Room};
 ghost use Rattle.soonest.specs.Soon.{Soon};
 ghost use Rattle.soonest.specs.Swept.{Swept};
 
@@ -47,7 +46,7 @@ fn key(
     groups::class_keys(row, group, n, column);
     sooner(
         none,
-        parts::shared(order, row, rep, column, lo, hi, n, value, top, holder),
+        holders::shared(order, row, rep, column, lo, hi, n, value, top, holder),
     )
 }
 
@@ -78,7 +77,7 @@ pub fn in_windows(
     ensures { λ x. ⌜ ((doc : Doc) → (q r : Rule) → (places : Places) → Swept doc q r places (now (order .entry)) (now (closes .entry)) (now (chosen .entry)) (now (row .entry)) (now (other .entry)) (now (rep .entry)) (now (lo .entry)) (now (hi .entry)) kind low high → Groups doc (now (group .entry)) → doc .size ≡ n → isSequenced r ≡ false → (5 ≤ kind → ⊥) → distinct ≡ r .distinct → Soon doc q r places x) ⌝ }
 {
     if kind == 3 {
-        return parts::unheld(
+        return holders::unheld(
             order,
             row,
             other,
@@ -94,7 +93,7 @@ pub fn in_windows(
     }
     if kind == 2 {
         groups::class_keys(row, group, n, number);
-        return parts::shared(order, row, rep, number, lo, hi, n, value, top, holder);
+        return holders::shared(order, row, rep, number, lo, hi, n, value, top, holder);
     }
     if kind != 4 {
         return key(
@@ -131,7 +130,7 @@ pub fn in_windows(
             holder,
         );
     }
-    on_days::cardinality(
+    counts::cardinality(
         order,
         closes,
         chosen,

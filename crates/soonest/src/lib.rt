@@ -13,25 +13,10 @@ ghost use Rattle.soonest.specs.Given.{Given};
 ghost use Rattle.soonest.specs.Soon.{Soon};
 ghost use Rattle.soonest.specs.Swept.{Asks};
 
-pub mod keys; // keys.rt: columns of keys for the passes
-pub mod parts; // parts.rt: two in one row, one value of two owners, a value that nobody has
-pub mod alone; // alone.rt: a value that is no row's only one
-pub mod counts; // counts.rt: too few and too many of one key
-pub mod by_value; // by_value.rt: too few and too many values of one key
 pub mod on_days; // on_days.rt: a sequenced rule, by its kind
 pub mod in_windows; // in_windows.rt: a non-sequenced rule, by its kind
 pub mod stepping; // stepping.rt: a datatype in windows
 pub mod sweeps; // sweeps.rt: every other rule, lined up and swept
-
-// The sooner of two places.
-fn sooner(a: u16, b: u16) -> u16
-    ensures { λ r. ⌜ (r ≤ a) × (r ≤ b) ⌝ }
-{
-    if a < b {
-        return a;
-    }
-    b
-}
 
 // The mark of the selected versions that the kind looks at themselves: 1 for a key and a cardinality; for the others one that no version has.
 fn asked(kind: u8) -> u8

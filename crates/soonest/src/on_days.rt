@@ -1,9 +1,9 @@
 // The soonest day of a sequenced rule's period on which it can fail, by its kind.
-use crate::alone;
-use crate::counts;
-use crate::keys;
-use crate::parts;
-use crate::sooner;
+use parts::alone;
+use parts::counts;
+use parts::holders;
+use parts::keys;
+use parts::sooner;
 ghost use mathlib.Core.Path.{_≡_};
 ghost use mathlib.Core.Bool.{true};
 ghost use Prim.Native.Nat.{_≤_};
@@ -14,10 +14,10 @@ ghost use Rattle.meaning.specs.Document.{Doc};
 ghost use Rattle.meaning.specs.Rules.{isSequenced};
 ghost use Rattle.places.specs.declared.Places.{Places};
 ghost use Rattle.crowds.specs.Crowds.{ByMany, Ordered};
-ghost use Rattle.soonest.specs.Keyed.{Numbered};
-ghost use Rattle.soonest.specs.Lined.{Ground};
-ghost use Rattle.soonest.specs.Parts.{ByTwice, ByShared, ByFew, Small, Room};
-ghost use Rattle.soonest.specs.Matched.{ByUnmatched};
+ghost use Rattle.parts.specs.Keyed.{Numbered};
+ghost use Rattle.parts.specs.Ground.{Ground};
+ghost use Rattle.parts.specs.Parts.{ByTwice, ByShared, ByFew, Small, Room};
+ghost use Rattle.parts.specs.Matched.{ByUnmatched};
 ghost use Rattle.soonest.specs.Soon.{Soon};
 ghost use Rattle.soonest.specs.Swept.{Swept};
 
@@ -38,8 +38,8 @@ fn unique(
     ensures { λ r. ⌜ ByTwice (now (order .entry)) (now (row .entry)) (now (lo .entry)) (now (hi .entry)) n r × ByShared (now (order .entry)) (now (row .entry)) (now (rep .entry)) (now (row .entry)) (now (lo .entry)) (now (hi .entry)) n r ⌝ }
 {
     sooner(
-        parts::twice(order, row, own, lo, hi, n, top, holder),
-        parts::shared(order, row, rep, row, lo, hi, n, value, top, holder),
+        holders::twice(order, row, own, lo, hi, n, top, holder),
+        holders::shared(order, row, rep, row, lo, hi, n, value, top, holder),
     )
 }
 
@@ -61,46 +61,8 @@ fn reference(
     ensures { λ r. ⌜ ByTwice (now (order .entry)) (now (row .entry)) (now (lo .entry)) (now (hi .entry)) n r × ByUnmatched (now (order .entry)) (now (row .entry)) (now (other .entry)) (now (rep .entry)) (now (lo .entry)) (now (hi .entry)) n r ⌝ }
 {
     sooner(
-        parts::twice(order, row, own, lo, hi, n, top, holder),
+        holders::twice(order, row, own, lo, hi, n, top, holder),
         alone::unmatched(order, row, other, rep, lo, hi, n, value, top, holder),
-    )
-}
-
-// A cardinality: too few of the class of a marked record, or too many of one key.
-pub fn cardinality(
-    order: &[u16],
-    closes: &[u16],
-    marks: &[u8],
-    class: &[u16],
-    key: &[u16],
-    lo: &[u16],
-    hi: &[u16],
-    n: usize,
-    low: usize,
-    high: usize,
-    demand: &mut [u16],
-    top: &mut [u16],
-    holder: &mut [u16],
-) -> u16
-    requires { ⌜ (n ≤ limit) × Ground (now order) (now lo) (now hi) n × (n ≤ length (now marks)) × (n ≤ length (now key)) × Small n (now class) × Ordered (now order) (now lo) (now key) n × Ordered (now closes) (now hi) (now key) n × (n ≤ length (now demand)) × (n ≤ length (now top)) × (n ≤ length (now holder)) ⌝ }
-    ensures { λ r. ⌜ ByFew (now (order .entry)) (now (marks .entry)) (now (class .entry)) (now (key .entry)) (now (lo .entry)) (now (hi .entry)) n low r × ByMany (now (key .entry)) (now (lo .entry)) (now (hi .entry)) n high r ⌝ }
-{
-    sooner(
-        counts::too_few(
-            order,
-            closes,
-            marks,
-            class,
-            key,
-            lo,
-            hi,
-            n,
-            low,
-            demand,
-            top,
-            holder,
-        ),
-        counts::too_many(order, closes, key, lo, hi, n, high, demand, top, holder),
     )
 }
 
@@ -161,7 +123,7 @@ pub fn on_days(
         return reference(order, own, row, other, rep, lo, hi, n, value, top, holder);
     }
     if kind == 4 {
-        return cardinality(
+        return counts::cardinality(
             order,
             closes,
             chosen,

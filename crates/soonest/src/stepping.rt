@@ -1,6 +1,5 @@
 // A datatype in windows: the soonest window in which a version is no number, or a wrong step from one that the window reaches back to.
 use crate::asked;
-use crate::keys;
 use columns::LIMIT;
 use meaning::Rule;
 use places::Places;
@@ -13,14 +12,37 @@ ghost use lib.ListN.{length};
 ghost use Rattle.calendar.specs.Entries.{MonthTable};
 ghost use Rattle.meaning.specs.declared.Rule.{Rule};
 ghost use Rattle.meaning.specs.Document.{Doc};
+ghost use Rattle.meaning.specs.Window.{least};
 ghost use Rattle.meaning.specs.Rules.{isSequenced, ruleFields};
 ghost use Rattle.columns.specs.Judgeable.{Judgeable};
 ghost use Rattle.places.specs.Placing.{Counted};
 ghost use Rattle.steps.specs.Places.{Closing};
 ghost use Rattle.passes.specs.Passes.{Covers};
-ghost use Rattle.soonest.specs.Given.{Given, Reaching};
-ghost use Rattle.soonest.specs.Parts.{Room};
+ghost use Rattle.soonest.specs.Given.{Given, Reaching, Earlier};
+ghost use Rattle.parts.specs.Parts.{Room};
 ghost use Rattle.soonest.specs.Soon.{Soon};
+
+// The earlier of two days. Cost: one test.
+fn earlier(a: u16, b: u16) -> u16
+    ensures { λ r. ⌜ r ≡ least a b ⌝ }
+{
+    if a <= b {
+        return a;
+    }
+    b
+}
+
+// For each of n records the earlier of two days. Cost: one pass.
+fn earlier_days(one: &[u16], other: &[u16], n: usize, out: &mut [u16])
+    requires { ⌜ (n ≤ length (now one)) × (n ≤ length (now other)) × (n ≤ length (now out)) ⌝ }
+    ensures { λ r. ⌜ Earlier n (now (one .entry)) (now (other .entry)) (now (out .exit)) ⌝ }
+{
+    let mut i = 0;
+    while i < n {
+        out[i] = earlier(one[i], other[i]);
+        i += 1;
+    }
+}
 
 // For each record of an order the place from which on it is not present, or no window reaches back far enough for it to offend the datatype rule,
 // into a lent column. Cost: that of the reaches, a pass over the records and one along the order.
@@ -53,7 +75,7 @@ fn reaching(
         rule.high,
     );
     let mut last = [0u16; LIMIT];
-    keys::earlier_days(&reach, end, begin.len(), &mut last);
+    earlier_days(&reach, end, begin.len(), &mut last);
     picking::lay_high(table, at, &last, order, until);
 }
 

@@ -20,7 +20,7 @@ ghost use Rattle.meaning.specs.Rules.{isSequenced, ruleFields};
 ghost use Rattle.groups.specs.Groups.{Groups};
 ghost use Rattle.places.specs.declared.Places.{Places};
 ghost use Rattle.soonest.specs.Given.{Given};
-ghost use Rattle.soonest.specs.Parts.{Room};
+ghost use Rattle.parts.specs.Parts.{Room};
 ghost use Rattle.soonest.specs.Soon.{Soon};
 ghost use Rattle.soonest.specs.Swept.{Swept};
 

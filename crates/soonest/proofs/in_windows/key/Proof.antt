@@ -1,6 +1,6 @@
 -- `soonest::in_windows::key` meets its contract: the sooner of two places serves for both.
 use native.Mathlib.Omega.{arith}
-use Rattle.soonest.proofs.Earlier.{few-earlier, shared-earlier}
+use Rattle.parts.proofs.Earlier.{few-earlier, shared-earlier}
 use Rattle.soonest.proofs.Finding.{numbered-small}
 use borrow.Author.Needs.{needs}
 use Rattle.soonest.proofs.in_windows.key.Statement.{statement}

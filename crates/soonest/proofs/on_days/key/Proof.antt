@@ -1,5 +1,5 @@
 -- `soonest::on_days::key` meets its contract: the sooner of two places serves for both.
-use Rattle.soonest.proofs.Earlier.{few-earlier, twice-earlier, shared-earlier}
+use Rattle.parts.proofs.Earlier.{few-earlier, twice-earlier, shared-earlier}
 use borrow.Author.Needs.{needs}
 use Rattle.soonest.proofs.on_days.key.Statement.{statement}
 use Rattle.soonest.proofs.on_days.key.Tie as tie

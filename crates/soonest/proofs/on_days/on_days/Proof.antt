@@ -1,5 +1,5 @@
 -- `soonest::on_days::on_days` meets its contract: by the kind, what its parts promise is that nothing offends sooner.
-use Rattle.soonest.proofs.Using.{given-least}
+use Rattle.parts.proofs.Using.{given-least}
 use Rattle.soonest.proofs.Finding.{rooms, numbered-small, unique-found, reference-found, datatype-found, cardinality-found, key-found, left-one}
 use borrow.Author.Needs.{needs}
 use Rattle.soonest.proofs.on_days.on_days.Statement.{statement}

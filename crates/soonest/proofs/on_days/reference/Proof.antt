@@ -1,5 +1,5 @@
 -- `soonest::on_days::reference` meets its contract: the sooner of two places serves for both.
-use Rattle.soonest.proofs.Earlier.{twice-earlier, unmatched-earlier}
+use Rattle.parts.proofs.Earlier.{twice-earlier, unmatched-earlier}
 use borrow.Author.Needs.{needs}
 use Rattle.soonest.proofs.on_days.reference.Statement.{statement}
 use Rattle.soonest.proofs.on_days.reference.Tie as tie

@@ -1,5 +1,5 @@
 -- `soonest::on_days::unique` meets its contract: the sooner of two places serves for both.
-use Rattle.soonest.proofs.Earlier.{twice-earlier, shared-earlier}
+use Rattle.parts.proofs.Earlier.{twice-earlier, shared-earlier}
 use borrow.Author.Needs.{needs}
 use Rattle.soonest.proofs.on_days.unique.Statement.{statement}
 use Rattle.soonest.proofs.on_days.unique.Tie as tie
