@@ -230,7 +230,7 @@ module _ (doc : Doc) (q r : Rule) where
   unfolding inWindows offenderIn
   first-fails-in d v n f =
       let w = f .window in
-      let e : offenderIn doc q r w ≡ At v = first-at (offendsIn doc (meets doc w) q r) v 0 (doc .size) (omega arith) (omega (arith, f .here)) (f .offence) (λ u a b. f .lowest u b) in
+      let e : offenderIn doc q r w ≡ At v = first-at (offendsIn doc (meets doc w) w q r) v 0 (doc .size) (omega arith) (omega (arith, f .here)) (f .offence) (λ u a b. f .lowest u b) in
       judge-up-to (windows r) (f .earlier) w 0 v (f .placed) (f .first-window) e
       ∙ ap₂ (λ (c m : ℕ). Fails c v m) (f .start) (omega (arith, f .counted))
 

@@ -1,5 +1,6 @@
 -- The three demands as theorems about the public calls `verdict`, `slice` and `change_days`, and what holds of `write_nodes`, each statement to be read by itself.
 use mathlib.Core.Path.{_≡_, refl, sym, _∙_}
+use mathlib.Core.Bool.{true}
 use mathlib.Core.Logic.{_↔_, _⊎_}
 use mathlib.Core.List.{List, _++_}
 use Prim.Native.Nat.{ℕ, _+_, _*_, _≤_, _<_}
@@ -24,7 +25,7 @@ use Rattle.meaning.specs.Rules.{ruleAt, rulesOf, readRules}
 use Rattle.meaning.specs.Walk.{count, pick}
 use Rattle.meaning.specs.Select.{reads}
 use Rattle.meaning.specs.Day.{alive, slice, offender, onDays}
-use Rattle.meaning.specs.Window.{Window, windows}
+use Rattle.meaning.specs.Window.{Window, shortened, windows}
 use Rattle.meaning.specs.Answer.{referredBy, judged, verdict, readVerdict, sliceAnswer, sliceLent, readSlice, changesOf, changesAnswer, changesLent, readChanges, readWrite}
 use Rattle.meaning.proofs.Unique as Unique
 use Rattle.meaning.proofs.Sound.{SoundNodes, SoundRules}
@@ -40,6 +41,8 @@ use Rattle.meaning.proofs.Changes.{ChangeDay, At-place}
 use Rattle.meaning.proofs.Faults.{NoFault, FirstFault}
 use Rattle.meaning.proofs.Timetable.{Nth, IsWindow}
 use Rattle.meaning.proofs.Windows.{NoFaultAmong, FirstFaultIn}
+use Rattle.meaning.proofs.Before.{verdictBefore}
+use Rattle.meaning.proofs.Sparing.{PastEnd, Untouched, shortened-where, verdict-same, verdict-holds}
 use Rattle.meaning.proofs.Slices as Slices
 use Rattle.meaning.proofs.Faults as Faults
 use Rattle.meaning.proofs.Windows as Windows
@@ -302,6 +305,21 @@ windowed-verdict nodes rules k x p w s =
       fails = λ d v n. (λ h. fails-in-windows doc q r d v n (sym e ∙ h), λ h. e ∙ Calls.first-fails-in doc q r d v n h);
       no-other = rw e (Calls.windows-answer doc q r);
     }
+
+-- What request 2 of 02 changed of this: a shortened window is not held to a cardinality's minimum. A window of a rule of a sound table is shortened
+-- exactly when its natural end lies past the period's end or past the last entry of the month table.
+pub shortened-windows : (rules : List ℕ) (k : ℕ) → SoundRules rules → k < length (rulesOf rules) → (j : ℕ) (w : Window) → IsWindow (ruleAt (rulesOf rules) k) j w
+    → (shortened w ≡ true) ↔ PastEnd (ruleAt (rulesOf rules) k) w
+shortened-windows rules k sound h = shortened-where (ruleAt (rulesOf rules) k) (sound .table k h)
+
+-- On a rule that is no cardinality in windows, or has no shortened window, `verdict` answers what it answered before, be the images what they may
+-- (`verdictBefore`: the verdict without the exception, kept in meaning/proofs/Before.antt for this statement and the next); ..
+pub verdict-as-before : (nodes rules : List ℕ) (k : ℕ) (x : Verdict) → VerdictPromise nodes rules k x → Untouched (ruleAt (rulesOf rules) k) → x ≡ verdictBefore nodes rules k
+verdict-as-before nodes rules k x p u = Unique.verdict-unique x (verdict nodes rules k) p ∙ verdict-same nodes rules k u
+
+-- .. and a rule that held before holds still, with the same count.
+pub still-holds : (nodes rules : List ℕ) (k : ℕ) (x : Verdict) → VerdictPromise nodes rules k x → (n : ℕ) → verdictBefore nodes rules k ≡ Holds n → x ≡ Holds n
+still-holds nodes rules k x p n e = Unique.verdict-unique x (verdict nodes rules k) p ∙ verdict-holds nodes rules k n e
 
 -- The slice of day d, as a list.
 pub record IsSlice (doc : Doc) (d : ℕ) (list : List ℕ) : Type 0 where

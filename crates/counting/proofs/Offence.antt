@@ -1,21 +1,22 @@
 -- An item number is out of range by what is counted under it exactly where the meaning says that its versions offend.
 use mathlib.Core.Path.{_≡_, refl, sym, _∙_, ap, ap₂, fun-ext}
 use mathlib.Core.Logic.{⊎-elim}
-use mathlib.Core.Bool.{Bool, true, false, _&&_, not, cond, and-true}
+use mathlib.Core.Bool.{Bool, true, false, _&&_, _||_, not, cond, and-true}
 use mathlib.Core.List.{List}
 use Prim.Native.Nat.{ℕ, _<_}
 use native.Mathlib.Nat.{le-refl}
 use native.Mathlib.Omega.{arith}
-use lib.IntN.{pos}
-use lib.Dec.{eqb}
+use lib.IntN.{ℤ, pos}
+use lib.Signed.{leZ}
+use lib.Dec.{eqb, leb}
 use lib.ListN.{length, getD}
-use borrow.Author.Tests.{eqb-true, eq-eqb}
+use borrow.Author.Tests.{eqb-true, eq-eqb, le-leb}
 use Rattle.meaning.specs.declared.Rule.{Rule}
 use Rattle.meaning.specs.Walk.{any, count, first}
 use Rattle.meaning.specs.Document.{Doc, isVersion, above, numberOf}
 use Rattle.meaning.specs.Rules.{byKind, isSequenced}
-use Rattle.meaning.specs.Select.{selected, fieldOf, valued, sameValue, within, present, gives}
-use Rattle.meaning.specs.Window.{Window, meets, under, counts, cardinalityIn, breaksIn, offendsIn}
+use Rattle.meaning.specs.Select.{selected, fieldOf, valued, sameValue, present, gives}
+use Rattle.meaning.specs.Window.{Window, shortened, meets, under, counts, cardinalityIn, breaksIn, offendsIn}
 use Rattle.meaning.proofs.Basics.{went, tests-same, and-l, and-r, and-same, both}
 use Rattle.meaning.proofs.Walks.{any-some, any-true, count-same, first-same}
 use Rattle.meaning.proofs.Says.{says}
@@ -27,11 +28,16 @@ use Rattle.values.specs.Represents.{Represents}
 use Rattle.prepare.specs.Rows.{wants, inRow}
 use Rattle.groups.specs.Groups.{inGroup}
 use Rattle.groups.proofs.Gathering.{group-under, under-group, row-version}
-use Rattle.day.proofs.Single.{outside-within}
+use Rattle.day.proofs.Single.{outside-bounds}
 use Rattle.counting.specs.Number.{touches, numberIn, breaks}
 use Rattle.counting.specs.Ready.{Ready, Terms}
 use Rattle.counting.proofs.Numbering.{first-of-value}
 use Rattle.counting.proofs.Looking.{offending}
+
+-- the bound that is asked, 0 where the window is shortened, is the rule's or none
+asked : (short : Bool) (lowest : ℤ) (low c : ℕ) → pos low ≡ cond short (pos 0) lowest → leb low c ≡ (short || leZ lowest (pos c))
+asked true lowest low c e = let none : low ≡ 0 = cc in le-leb low c (omega arith)
+asked false lowest low c e = rw (← e)
 
 -- a document that can be judged, in a window
 module _ (doc : Doc) (judgeable : Judgeable doc) (w : Window) where
@@ -127,18 +133,20 @@ module _ (doc : Doc) (judgeable : Judgeable doc) (w : Window) where
           by true = sym (first-of-value (doc .size) rep (represents .low) u (sameValue doc) (λ f g a b. represents .same f g (under-version n f a) (under-version n g b)) (doc .size) (le-refl (doc .size)))
           by false = count-same u (newest false) 0 (doc .size) (λ f a b. sym (and-true (u f)))
 
-      breaks-is : (distinct : Bool) (low high : ℕ) → Terms r distinct low high → (v : ℕ)
-          → breaks p (doc .size) rep distinct low high (inGroup doc r (numberOf doc v)) ≡ cardinalityIn doc (meets doc w) r v
+      breaks-is : (distinct : Bool) (low high : ℕ) → Terms r (shortened w) distinct low high → (v : ℕ)
+          → breaks p (doc .size) rep distinct low high (inGroup doc r (numberOf doc v)) ≡ cardinalityIn doc (meets doc w) w r v
       unfolding breaks cardinalityIn
       breaks-is distinct low high terms v =
-          outside-within r low high _ (terms .low-is) (terms .high-is) ∙ ap (λ c. not (within r (pos c))) (number-is distinct (terms .distinct-is) (numberOf doc v))
+          outside-bounds low high _
+          ∙ ap (λ c. not (leb low c && leb c high)) (number-is distinct (terms .distinct-is) (numberOf doc v))
+          ∙ ap₂ (λ a b. not (a && b)) (asked (shortened w) (r .low) low _ (terms .low-is)) (rw (← terms .high-is))
 
-      offends-is : (q : Rule) (distinct : Bool) (low high : ℕ) → Terms r distinct low high → (v : ℕ)
-          → offending (selected doc r) p (λ u. breaks p (doc .size) rep distinct low high (inGroup doc r (numberOf doc u))) v ≡ offendsIn doc (meets doc w) q r v
+      offends-is : (q : Rule) (distinct : Bool) (low high : ℕ) → Terms r (shortened w) distinct low high → (v : ℕ)
+          → offending (selected doc r) p (λ u. breaks p (doc .size) rep distinct low high (inGroup doc r (numberOf doc u))) v ≡ offendsIn doc (meets doc w) w q r v
       unfolding offendsIn byKind breaksIn present
       offends-is q distinct low high terms v =
           behind (selected doc r v) (p v) (meets doc w v) _ _ (λ s. touches-meets v (selected-version doc r v s)) (breaks-is distinct low high terms v)
-          ∙ sym (ap (breaksIn doc (meets doc w) q r v) (terms .kind))
+          ∙ sym (ap (breaksIn doc (meets doc w) w q r v) (terms .kind))
         where
           behind : (a x y k l : Bool) → (a ≡ true → x ≡ y) → k ≡ l → a && (x && k) ≡ (a && y && l)
           behind true x y k l h g = ap₂ _&&_ (h refl) g
@@ -159,8 +167,8 @@ module _ (doc : Doc) (r : Rule) (start : ℕ) (next begins ends reps groups last
       ap (λ k. breaks (touches begins ends from to) (length begins) (λ f. getD reps f 0) distinct low high (inGroup doc r k)) n
 
   -- the first version that is selected, present and out of range is the first that offends
-  pub answers : (q : Rule) (w : Window) → Terms r distinct low high → w .from ≡ from → w .to ≡ to
-      → first (offending (selected doc r) (touches begins ends from to) (badIn begins ends reps distinct low high from to doc r)) 0 (length begins) ≡ first (offendsIn doc (meets doc w) q r) 0 (doc .size)
+  pub answers : (q : Rule) (w : Window) → Terms r (shortened w) distinct low high → w .from ≡ from → w .to ≡ to
+      → first (offending (selected doc r) (touches begins ends from to) (badIn begins ends reps distinct low high from to doc r)) 0 (length begins) ≡ first (offendsIn doc (meets doc w) w q r) 0 (doc .size)
   answers q w terms a b =
       ap (λ n. first (offending (selected doc r) (touches begins ends from to) (λ v. breaks (touches begins ends from to) n (λ f. getD reps f 0) distinct low high (inGroup doc r (numberOf doc v)))) 0 n)
       (s .periods .begin .size)

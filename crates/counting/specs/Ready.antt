@@ -1,6 +1,6 @@
 -- What the offender of one window is worked out from, for a non-sequenced cardinality rule, and the terms of that rule.
 use mathlib.Core.Path.{_≡_}
-use mathlib.Core.Bool.{Bool, false}
+use mathlib.Core.Bool.{Bool, false, cond}
 use mathlib.Core.List.{List}
 use Prim.Native.Nat.{ℕ}
 use lib.IntN.{pos}
@@ -26,9 +26,9 @@ pub record Ready (doc : Doc) (r : Rule) (start : ℕ) (next begins ends reps gro
   pub classes : Groups doc groups
   pub gathered : Gathered doc r groups last lower
 
--- a cardinality that counts values or field versions, and its bounds
-pub record Terms (r : Rule) (distinct : Bool) (low high : ℕ) : Type 0 where
+-- a cardinality that counts values or field versions, and its bounds; in a shortened window the lower one is 0
+pub record Terms (r : Rule) (short distinct : Bool) (low high : ℕ) : Type 0 where
   pub kind : r .kind ≡ 4
-  pub low-is : pos low ≡ r .low
+  pub low-is : pos low ≡ cond short (pos 0) (r .low)
   pub high-is : pos high ≡ r .high
   pub distinct-is : distinct ≡ eqb (r .distinct) 1

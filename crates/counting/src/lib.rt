@@ -6,7 +6,7 @@ ghost use mathlib.Core.Path.{_≡_};
 ghost use Rattle.meaning.specs.declared.Rule.{Rule};
 ghost use Rattle.meaning.specs.Walk.{first};
 ghost use Rattle.meaning.specs.Document.{Doc};
-ghost use Rattle.meaning.specs.Window.{Window, meets, offendsIn};
+ghost use Rattle.meaning.specs.Window.{Window, shortened, meets, offendsIn};
 ghost use Rattle.counting.specs.Number.{Fresh};
 ghost use Rattle.counting.specs.Ready.{Ready, Terms};
 
@@ -33,7 +33,7 @@ fn first_counted(
     seen: &mut [u16],
 ) -> Found
     requires { ⌜ ((doc : Doc) × (r : Rule) × Ready doc r start (now next) (now begin) (now end) (now rep) (now group) (now last) (now lower) × Fresh (doc .size) (now done) (now seen)) ⌝ }
-    ensures { λ x. ⌜ ((doc : Doc) (q r : Rule) (w : Window) → Ready doc r start (now (next .entry)) (now (begin .entry)) (now (end .entry)) (now (rep .entry)) (now (group .entry)) (now (last .entry)) (now (lower .entry)) → Terms r distinct low high → w .from ≡ from → w .to ≡ to → x ≡ first (offendsIn doc (meets doc w) q r) 0 (doc .size)) ⌝ }
+    ensures { λ x. ⌜ ((doc : Doc) (q r : Rule) (w : Window) → Ready doc r start (now (next .entry)) (now (begin .entry)) (now (end .entry)) (now (rep .entry)) (now (group .entry)) (now (last .entry)) (now (lower .entry)) → Terms r (shortened w) distinct low high → w .from ≡ from → w .to ≡ to → x ≡ first (offendsIn doc (meets doc w) w q r) 0 (doc .size)) ⌝ }
 {
     let mut v = start;
     while v < begin.len() {
@@ -77,7 +77,7 @@ pub fn counting_in<'a>(
     to: usize,
 ) -> Found
     requires { ⌜ ((doc : Doc) × (r : Rule) × Ready doc r start (now next) (now begin) (now end) (now rep) (now group) (now last) (now lower)) ⌝ }
-    ensures { λ x. ⌜ ((doc : Doc) (q r : Rule) (w : Window) → Ready doc r start (now (next .entry)) (now (begin .entry)) (now (end .entry)) (now (rep .entry)) (now (group .entry)) (now (last .entry)) (now (lower .entry)) → Terms r distinct low high → w .from ≡ from → w .to ≡ to → x ≡ first (offendsIn doc (meets doc w) q r) 0 (doc .size)) ⌝ }
+    ensures { λ x. ⌜ ((doc : Doc) (q r : Rule) (w : Window) → Ready doc r start (now (next .entry)) (now (begin .entry)) (now (end .entry)) (now (rep .entry)) (now (group .entry)) (now (last .entry)) (now (lower .entry)) → Terms r (shortened w) distinct low high → w .from ≡ from → w .to ≡ to → x ≡ first (offendsIn doc (meets doc w) w q r) 0 (doc .size)) ⌝ }
 {
     let mut done = [0u8; LIMIT];
     let mut seen = [0u16; LIMIT];

@@ -83,10 +83,13 @@ not-leb a b =
     (λ (h : b < a). rw (lt-ltb b a h, lt-leb a b h))
     (le-or-lt a b)
 
-pub outside-within : (r : Rule) (low high c : ℕ) → pos low ≡ r .low → pos high ≡ r .high → outside low high c ≡ not (within r (pos c))
-unfolding within
-outside-within r low high c l h = rw (sym l, sym h, not-leb low c, not-leb c high) (either (leb low c) (leb c high))
+pub outside-bounds : (low high c : ℕ) → outside low high c ≡ not (leb low c && leb c high)
+outside-bounds low high c = rw (not-leb low c, not-leb c high) (either (leb low c) (leb c high))
   where
     either : (a b : Bool) → (not a || not b) ≡ not (a && b)
     either true b = refl
     either false b = refl
+
+pub outside-within : (r : Rule) (low high c : ℕ) → pos low ≡ r .low → pos high ≡ r .high → outside low high c ≡ not (within r (pos c))
+unfolding within
+outside-within r low high c l h = rw (sym l, sym h) (outside-bounds low high c)

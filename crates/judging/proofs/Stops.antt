@@ -11,7 +11,7 @@ use Rattle.meaning.specs.declared.Rule.{Rule}
 use Rattle.meaning.specs.Document.{Doc}
 use Rattle.meaning.specs.Rules.{isSequenced, ruleFields}
 use Rattle.meaning.specs.Day.{offender}
-use Rattle.meaning.specs.Window.{offenderIn}
+use Rattle.meaning.specs.Window.{shortened, offenderIn}
 use Rattle.meaning.proofs.Basics.{le-or-lt}
 use Rattle.meaning.proofs.Tables.{rule-row}
 use Rattle.columns.specs.Judgeable.{Judgeable}
@@ -19,6 +19,7 @@ use Rattle.places.specs.declared.Places.{Places}
 use Rattle.places.specs.declared.Place.{Place}
 use Rattle.places.specs.Placing.{startOf, endOf, windowAt, Counted, Placed, on-days, whole-period, in-days, in-months}
 use Rattle.places.proofs.Bounds.{ends-by-close}
+use Rattle.places.proofs.Shortened.{shortened-at}
 use Rattle.judging.specs.declared.walking.Stop.{Stop}
 use Rattle.judging.specs.declared.walking.Stop.the-variants.{Here, Nowhere}
 use Rattle.judging.specs.Stopping.{offenderAt, Clear, Stands, Offended, Stopped}
@@ -64,6 +65,10 @@ stands k h f t n s = record { inside = omega arith; from = rw n f; to = rw n t; 
 
 pub from-few : {at : Places} {here : Place} → Counted at → Stands at here → here .from ≤ 36524
 from-few {here = here} c s = omega (arith, c .inside (here .number) (s .inside), c .close-most, s .from)
+
+-- a place says of itself whether its window is shortened
+pub short-there : {at : Places} {here : Place} → Counted at → Stands at here → shortened (windowAt at (here .number)) ≡ here .shortened
+short-there {here = here} c s = shortened-at c (here .number) (s .inside) ∙ sym (s .shortened)
 
 module _ (doc : Doc) (q r : Rule) {at : Places} {here : Place} (s : Stands at here) where
   pub found-on-day : {x : Found} → Judgeable doc → isSequenced r ≡ true → Placed r at → Counted at → x ≡ offender doc q r (here .from)

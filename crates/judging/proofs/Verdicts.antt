@@ -28,7 +28,7 @@ use Rattle.judging.proofs.WindowVerdict.{fails-in, holds-in}
 module _ (doc : Doc) (q r : Rule) (at : Places) (k : ℕ) (soon : Soon doc q r at k) where
   before : (i : ℕ) → i < at .count → i < k → offenderAt doc q r (windowAt at i) ≡ Nothing
   unfolding offenderAt Soon
-  before i h l = first-none (offendsAt doc (meets doc (windowAt at i)) q r) 0 (doc .size) (λ v a b. soon i v h l)
+  before i h l = first-none (offendsAt doc (windowAt at i) q r) 0 (doc .size) (λ v a b. soon i v h l)
 
   -- no place below the one where the walk stopped has an offender
   all-clear : {j : ℕ} → Clear doc q r at k j → j ≤ at .count → (i : ℕ) → i < j → offenderAt doc q r (windowAt at i) ≡ Nothing

@@ -17,7 +17,7 @@ use Rattle.judging.specs.declared.walking.Stop.the-variants.{Here, Nowhe
 
 -- the lowest offender of a place, as on a day or as in a window
 unfoldable pub offenderAt : Doc → Rule → Rule → Window → Found
-offenderAt doc q r w = first (offendsAt doc (meets doc w) q r) 0 (doc .size)
+offenderAt doc q r w = first (offendsAt doc w q r) 0 (doc .size)
 
 -- no version offends at a place from k on and before j
 pub record Clear (doc : Doc) (q r : Rule) (at : Places) (k j : ℕ) : Type 0 where

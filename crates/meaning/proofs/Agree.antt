@@ -5,6 +5,7 @@ use mathlib.Core.Bool.{Bool, true, false, _&&_, _||_, not}
 use Prim.Native.Nat.{ℕ, zero, suc}
 use lib.Dec.{eqb, leb}
 use lib.IntN.{pos, _-ℤ_}
+use lib.Signed.{leZ}
 use borrow.Author.Tests.{eq-eqb}
 use Rattle.meaning.specs.declared.Rule.{Rule}
 use Rattle.meaning.specs.Walk.{any, count}
@@ -12,7 +13,7 @@ use Rattle.meaning.specs.Document.{Doc, numberOf}
 use Rattle.meaning.specs.Rules.{byKind, isReference}
 use Rattle.meaning.specs.Select.{selected, fieldOf, readsOwn, valued, sameValue, within, isNumber, present, gives, has}
 use Rattle.meaning.specs.Day.{values, sharesOnly, taken, key, unique, reference, cardinality, datatype, breaks, offends}
-use Rattle.meaning.specs.Window.{valueless, shares, sharedIn, keyIn, referenceIn, under, counts, cardinalityIn, follows, jumps, datatypeIn, breaksIn, offendsIn}
+use Rattle.meaning.specs.Window.{Window, shortened, valueless, shares, sharedIn, keyIn, referenceIn, under, counts, cardinalityIn, follows, jumps, datatypeIn, breaksIn, offendsIn}
 use Rattle.meaning.proofs.Basics.{went, and-same}
 use Rattle.meaning.proofs.Selects.{selected-read, field-read}
 
@@ -113,24 +114,26 @@ module _ (doc : Doc) (p p′ : ℕ → Bool) where
     unfolding offends
     offends-agree = fun-ext (λ v. behind r a v _ _ (breaks-same (r .kind) refl v))
 
-    breaks-in-same : (k : ℕ) → r .kind ≡ k → (v : ℕ) → breaksIn doc p q r v k ≡ breaksIn doc p′ q r v k
+    breaks-in-same : (w : Window) (k : ℕ) → r .kind ≡ k → (v : ℕ) → breaksIn doc p w q r v k ≡ breaksIn doc p′ w q r v k
     unfolding byKind breaksIn keyIn valueless sharedIn referenceIn cardinalityIn datatypeIn
-    breaks-in-same zero e v = refl
-    breaks-in-same (suc zero) e v = behind r a v _ _ (λ s. rw (gives-same r a v s, shares-same r a r a v s))
-    breaks-in-same (suc (suc zero)) e v = behind r a v _ _ (λ s. rw (shares-same r a r a v s))
-    breaks-in-same (suc (suc (suc zero))) e v =
+    breaks-in-same w zero e v = refl
+    breaks-in-same w (suc zero) e v = behind r a v _ _ (λ s. rw (gives-same r a v s, shares-same r a r a v s))
+    breaks-in-same w (suc (suc zero)) e v = behind r a v _ _ (λ s. rw (shares-same r a r a v s))
+    breaks-in-same w (suc (suc (suc zero))) e v =
         behind r a v _ _
         (λ s. ap₂ (λ (g h : ℕ → Bool). any (λ f. g f && not (h f)) 0 (doc .size)) (gives-same r a v s) (fun-ext (held-same r a q (b (eq-eqb (r .kind) 3 e)) v s)))
-    breaks-in-same (suc (suc (suc (suc zero)))) e v =
+    breaks-in-same w (suc (suc (suc (suc zero)))) e v =
         behind r a v _ _
-        (λ s. ap (λ (h : ℕ → ℕ → Bool). not (within r (pos (count (h (numberOf doc v)) 0 (doc .size))))) (counts-same r a))
-    breaks-in-same (suc (suc (suc (suc (suc k))))) e v =
+        (λ s.
+        ap (λ (h : ℕ → ℕ → Bool). let n = pos (count (h (numberOf doc v)) 0 (doc .size)) in not ((shortened w || leZ (r .low) n) && leZ n (r .high)))
+        (counts-same r a))
+    breaks-in-same w (suc (suc (suc (suc (suc k))))) e v =
         ap (λ (h : ℕ → Bool). any h 0 (doc .size))
         (fun-ext (λ u.
         ap₂ (λ (x : Bool) (h : ℕ → ℕ → ℕ → Bool). x && (not (isNumber doc v) || any (h (numberOf doc u) v) 0 (doc .size)))
         (present-gives r a u v) (jumps-same r a)))
 
     -- in a window
-    pub offends-in-agree : offendsIn doc p q r ≡ offendsIn doc p′ q r
+    pub offends-in-agree : (w : Window) → offendsIn doc p w q r ≡ offendsIn doc p′ w q r
     unfolding offendsIn
-    offends-in-agree = fun-ext (breaks-in-same (r .kind) refl)
+    offends-in-agree w = fun-ext (breaks-in-same w (r .kind) refl)

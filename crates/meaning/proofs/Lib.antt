@@ -36,6 +36,8 @@ pub mod Rooms
 pub mod Faults
 pub mod Timetable
 pub mod Windows
+pub mod Before
+pub mod Sparing
 pub mod Hops
 pub mod Asking
 pub mod Decoded
@@ -52,5 +54,6 @@ pub mod PinnedNodes
 pub mod PinnedRules
 pub mod PinnedDays
 pub mod PinnedWindows
+pub mod PinnedShortened
 pub mod Pinned
 pub mod Unique

@@ -26,7 +26,7 @@ abbrev judges : List ℕ → Verdict → Posed
 judges r found = pose (table (r ∷ [])) (onRule 0) (told found)
 
 -- the mixer of record 3 has from .. to .. losses in each window of this period
-abbrev losses : ℕ → ℕ → ℕ → ℕ → List ℕ
+abbrev pub losses : ℕ → ℕ → ℕ → ℕ → List ℕ
 losses least most begin end = during begin end (between (pos least) (pos most) (rule 4 1 (1 ∷ 2 ∷ []) 4))
 
 -- the losses are on the days 5, 17, 28, 334, 365, 396, 424 and 429
@@ -39,11 +39,11 @@ spans =
     ∷ judges (losses 1 1 5 17) (Holds 1)
     ∷ judges (losses 0 8 0 36525) (Holds 1)
     ∷ judges (losses 0 7 0 36525) (Fails 0 3 1)
-    -- windows of ten days: [0,10) [10,20), the next starts after the period; [20,25) is shortened and has no loss; [20,29) has one
+    -- windows of ten days: [0,10) [10,20), the next starts after the period; [20,28) has no loss and is shortened, as [20,29) is, which has one
     ∷ judges (days 10 10 (losses 1 1 0 20)) (Holds 2)
-    ∷ judges (days 10 10 (losses 1 1 0 21)) (Fails 20 3 3)
-    ∷ judges (days 10 10 (losses 1 1 0 25)) (Fails 20 3 3)
-    ∷ judges (days 10 10 (losses 1 1 0 28)) (Fails 20 3 3)
+    ∷ judges (days 10 10 (losses 1 1 0 21)) (Holds 3)
+    ∷ judges (days 10 10 (losses 0 0 18 28)) (Holds 1)
+    ∷ judges (days 10 10 (losses 0 0 20 29)) (Fails 20 3 1)
     ∷ judges (days 10 10 (losses 1 1 0 29)) (Holds 3)
     -- a slide below the length: [8,18) [12,20) [16,20); and [0,18) [9,27) [18,30) [27,30)
     ∷ judges (days 10 4 (losses 1 1 8 20)) (Holds 3)
@@ -58,16 +58,19 @@ spans =
     ∷ judges (days 36525 36525 (losses 2 2 5 18)) (Holds 1)
     -- months over the end of the year 2000: [305,335) [335,366) [366,397) [397,425) [425,430)
     ∷ judges (months 1 1 (losses 1 1 305 430)) (Holds 5)
-    ∷ judges (months 1 1 (losses 1 1 305 429)) (Fails 425 3 5)
+    ∷ judges (months 1 1 (losses 0 0 425 430)) (Fails 425 3 1)
+    ∷ judges (months 1 1 (losses 0 0 425 429)) (Holds 1)
     ∷ judges (months 1 1 (losses 1 1 305 425)) (Holds 4)
     -- two months at a time: [305,366) [335,397) [366,425) [397,430) [425,430); every second month; every second two
-    ∷ judges (months 2 1 (losses 2 2 305 430)) (Fails 425 3 5)
-    ∷ judges (months 2 1 (losses 2 2 305 425)) (Fails 397 3 4)
+    ∷ judges (months 2 1 (losses 2 2 305 430)) (Holds 5)
+    ∷ judges (months 2 1 (losses 1 1 366 425)) (Fails 366 3 1)
+    ∷ judges (months 2 1 (losses 0 1 397 425)) (Holds 1)
     ∷ judges (months 1 2 (losses 1 1 305 430)) (Holds 3)
     ∷ judges (months 2 2 (losses 2 2 305 425)) (Holds 2)
     -- years: [0,366) has five losses, [366,430) three
     ∷ judges (months 12 12 (losses 3 5 0 430)) (Holds 2)
-    ∷ judges (months 12 12 (losses 5 5 0 430)) (Fails 366 3 2)
+    ∷ judges (months 12 12 (losses 6 6 0 430)) (Fails 0 3 1)
+    ∷ judges (months 12 12 (losses 0 2 366 430)) (Fails 366 3 1)
     ∷ judges (months 12 12 (losses 3 4 0 430)) (Fails 0 3 1)
     ∷ []
 

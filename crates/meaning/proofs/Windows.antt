@@ -92,7 +92,7 @@ module _ (f : Window → Found) where
 
 -- no record offends in a window
 abbrev pub NoFaultIn : Doc → Rule → Rule → Window → Type 0
-NoFaultIn doc q r w = (v : ℕ) → v < doc .size → offendsIn doc (meets doc w) q r v ≡ false
+NoFaultIn doc q r w = (v : ℕ) → v < doc .size → offendsIn doc (meets doc w) w q r v ≡ false
 
 -- nor in any of the windows
 abbrev pub NoFaultAmong : Doc → Rule → Rule → List Window → Type 0
@@ -106,18 +106,18 @@ pub record FirstFaultIn (doc : Doc) (q r : Rule) (d v n : ℕ) : Type 0 where
   pub start : window .from ≡ d
   pub counted : n ≡ suc earlier
   pub here : v < doc .size
-  pub offence : offendsIn doc (meets doc window) q r v ≡ true
-  pub lowest : (u : ℕ) → u < v → offendsIn doc (meets doc window) q r u ≡ false
+  pub offence : offendsIn doc (meets doc window) window q r v ≡ true
+  pub lowest : (u : ℕ) → u < v → offendsIn doc (meets doc window) window q r u ≡ false
   pub first-window : (j : ℕ) (w : Window) → j < earlier → Nth (windows r) j w → NoFaultIn doc q r w
 
 module _ (doc : Doc) (q r : Rule) where
   none-in : (w : Window) → offenderIn doc q r w ≡ Nothing → NoFaultIn doc q r w
   unfolding offenderIn
-  none-in w e v h = first-nothing (offendsIn doc (meets doc w) q r) 0 (doc .size) e v (omega arith) (omega arith)
+  none-in w e v h = first-nothing (offendsIn doc (meets doc w) w q r) 0 (doc .size) e v (omega arith) (omega arith)
 
   pub none-found : (w : Window) → NoFaultIn doc q r w → offenderIn doc q r w ≡ Nothing
   unfolding offenderIn
-  none-found w h = first-none (offendsIn doc (meets doc w) q r) 0 (doc .size) (λ v a b. h v (omega arith))
+  none-found w h = first-none (offendsIn doc (meets doc w) w q r) 0 (doc .size) (λ v a b. h v (omega arith))
 
   pub holds-none-in : (n : ℕ) → inWindows doc q r ≡ Holds n → NoFaultAmong doc q r (windows r) × (n ≡ length (windows r))
   unfolding inWindows
@@ -131,7 +131,7 @@ module _ (doc : Doc) (q r : Rule) where
   unfolding inWindows offenderIn
   fails-first-in d v n e =
       let c = judge-fails (offenderIn doc q r) (windows r) 0 d v n e in
-      let o = first-found (offendsIn doc (meets doc (c .window)) q r) 0 (doc .size) v (c .found-there) in
+      let o = first-found (offendsIn doc (meets doc (c .window)) (c .window) q r) 0 (doc .size) v (c .found-there) in
       record {
         window = c .window;
         earlier = c .earlier;

@@ -3,6 +3,7 @@ use Prim.Native.Nat.{ℕ, zero, suc, _+_, _-_}
 use mathlib.Core.Bool.{Bool, false, _&&_, _||_, not, cond}
 use mathlib.Core.List.{List, [], _∷_}
 use lib.IntN.{pos, _-ℤ_}
+use lib.Signed.{leZ}
 use lib.Dec.{leb, ltb, eqb}
 use Rattle.meaning.specs.Rules.{byKind}
 use Rattle.calendar.specs.declared.Month.{Month}
@@ -21,6 +22,10 @@ pub record Window : Type 0 where
   pub from : ℕ
   pub to : ℕ
   pub natural : ℕ
+
+-- it ends before its natural end: the period's end, or the last entry of the month table, cuts it short
+unfoldable pub shortened : Window → Bool
+shortened w = ltb (w .to) (w .natural)
 
 -- version v and the window share a day
 unfoldable pub meets : Doc → Window → ℕ → Bool
@@ -55,8 +60,11 @@ module _ (doc : Doc) (p : ℕ → Bool) where
   unfoldable pub counts : Rule → ℕ → ℕ → Bool
   counts r n f = under r n f && not (eqb (r .distinct) 1 && any (λ g. sameValue doc f g && under r n g) 0 f)
 
-  unfoldable pub cardinalityIn : Rule → ℕ → Bool
-  cardinalityIn r v = not (within r (pos (count (counts r (numberOf doc v)) 0 (doc .size))))
+  -- too few, where window w is not shortened, or too many
+  unfoldable pub cardinalityIn : Window → Rule → ℕ → Bool
+  cardinalityIn w r v =
+      let n = pos (count (counts r (numberOf doc v)) 0 (doc .size)) in
+      not ((shortened w || leZ (r .low) n) && leZ n (r .high))
 
   -- g ends by the begin of f, both numbers under item number n, and nothing valued under n lies wholly between
   unfoldable pub follows : Rule → ℕ → ℕ → ℕ → Bool
@@ -73,22 +81,22 @@ module _ (doc : Doc) (p : ℕ → Bool) where
   datatypeIn r f v = present doc p r v && gives doc p r v f && (not (isNumber doc f) || any (jumps r (numberOf doc v) f) 0 (doc .size))
 
   -- by the rule's kind: a selected version offends, for a datatype a field version
-  unfoldable pub breaksIn : Rule → Rule → ℕ → ℕ → Bool
-  breaksIn q r v k =
+  unfoldable pub breaksIn : Window → Rule → Rule → ℕ → ℕ → Bool
+  breaksIn w q r v k =
       byKind
       (λ u. present doc p r u && keyIn r u)
       (λ u. present doc p r u && sharedIn r u)
       (λ u. present doc p r u && referenceIn q r u)
-      (λ u. present doc p r u && cardinalityIn r u)
+      (λ u. present doc p r u && cardinalityIn w r u)
       (λ u. any (datatypeIn r u) 0 (doc .size))
       k v
 
-  unfoldable pub offendsIn : Rule → Rule → ℕ → Bool
-  offendsIn q r v = breaksIn q r v (r .kind)
+  unfoldable pub offendsIn : Window → Rule → Rule → ℕ → Bool
+  offendsIn w q r v = breaksIn w q r v (r .kind)
 
 -- the lowest offender of a window
 unfoldable pub offenderIn : Doc → Rule → Rule → Window → Found
-offenderIn doc q r w = first (offendsIn doc (meets doc w) q r) 0 (doc .size)
+offenderIn doc q r w = first (offendsIn doc (meets doc w) w q r) 0 (doc .size)
 
 abbrev pub least : ℕ → ℕ → ℕ
 least a b = cond (leb a b) a b

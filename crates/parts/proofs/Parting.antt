@@ -114,9 +114,3 @@ few-one order marks classes keys reps lo hi n low D one b x p on mark here less 
     (λ h. absurd (omega (arith, some-value keys reps lo hi n (at classes x) p h)))
     (λ h. omega arith)
     (le-or-lt 1 (present keys lo hi n (at classes x) p)))
-
--- an earlier place serves as well
-pub few-values-earlier : (order marks classes keys reps lo hi : List ℕ) (n low : ℕ) {D E : ℕ} → E ≤ D → ByFewValues order marks classes keys reps lo hi n low D
-    → ByFewValues order marks classes keys reps lo hi n low E
-unfolding ByFewValues
-few-values-earlier order marks classes keys reps lo hi n low h b x p on mark here less = omega (arith, b x p on mark here less)

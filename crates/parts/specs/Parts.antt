@@ -41,6 +41,12 @@ unfoldable pub ByFewFirst : (marks classes keys lo first hi : List ℕ) (n low D
 ByFewFirst marks classes keys lo first hi n low D =
     (x p : ℕ) → x < n → marked marks x ≡ true → Present lo hi x p → present keys first hi n (at classes x) p < low → D ≤ p
 
+-- what P promises of a place, promised of D below place `whole`: D is no later than any place before that than which the place of P is no later
+pub record BelowWhole (P : ℕ → Type 0) (whole D : ℕ) : Type 0 where
+  pub place : ℕ
+  pub promised : P place
+  pub no-later : (p : ℕ) → p < whole → place ≤ p → D ≤ p
+
 -- a column that has a number below n for each of n records
 pub record Small (n : ℕ) (column : List ℕ) : Type 0 where
   pub room : n ≤ length column

@@ -1,4 +1,5 @@
 // Too few and too many values of one key at once: records of one value count once, so each counts from the end of those of its value before it.
+use crate::below_whole;
 use crate::counts;
 use crate::sooner;
 use columns::LIMIT;
@@ -15,7 +16,7 @@ ghost use Rattle.distinct.specs.Classes.{Valued};
 ghost use Rattle.distinct.specs.Values.{ByManyValues};
 ghost use Rattle.parts.specs.Ground.{Ground};
 ghost use Rattle.parts.specs.Keyed.{KeyMarks, Parted};
-ghost use Rattle.parts.specs.Parts.{ByFewValues, ByFewFirst, Small};
+ghost use Rattle.parts.specs.Parts.{ByFewValues, ByFewFirst, BelowWhole, Small};
 
 // The mark of a record: 2 where its key is below n, else 0.
 fn mark_of(key: u16, n: usize) -> u8
@@ -255,7 +256,7 @@ pub fn too_few(
     )
 }
 
-// A cardinality of values: too few of the class of a marked record, or too many of one key.
+// A cardinality of values: too few of the class of a marked record, at a place below `whole`, or too many of one key.
 pub fn cardinality(
     order: &[u16],
     closes: &[u16],
@@ -266,6 +267,7 @@ pub fn cardinality(
     lo: &[u16],
     hi: &[u16],
     n: usize,
+    whole: usize,
     low: usize,
     high: usize,
     demand: &mut [u16],
@@ -273,23 +275,26 @@ pub fn cardinality(
     holder: &mut [u16],
 ) -> u16
     requires { ⌜ Valued (now key) (now rep) n × Ground (now order) (now lo) (now hi) n × (n ≤ length (now marks)) × Small n (now class) × Ordered (now order) (now lo) (now key) n × Ordered (now closes) (now hi) (now key) n × (n ≤ length (now demand)) × (n ≤ length (now top)) × (n ≤ length (now holder)) ⌝ }
-    ensures { λ r. ⌜ ByFewValues (now (order .entry)) (now (marks .entry)) (now (class .entry)) (now (key .entry)) (now (rep .entry)) (now (lo .entry)) (now (hi .entry)) n low r × ByManyValues (now (key .entry)) (now (rep .entry)) (now (lo .entry)) (now (hi .entry)) n high r ⌝ }
+    ensures { λ r. ⌜ BelowWhole (ByFewValues (now (order .entry)) (now (marks .entry)) (now (class .entry)) (now (key .entry)) (now (rep .entry)) (now (lo .entry)) (now (hi .entry)) n low) whole r × ByManyValues (now (key .entry)) (now (rep .entry)) (now (lo .entry)) (now (hi .entry)) n high r ⌝ }
 {
     sooner(
-        too_few(
-            order,
-            closes,
-            marks,
-            class,
-            key,
-            rep,
-            lo,
-            hi,
-            n,
-            low,
-            demand,
-            top,
-            holder,
+        below_whole(
+            too_few(
+                order,
+                closes,
+                marks,
+                class,
+                key,
+                rep,
+                lo,
+                hi,
+                n,
+                low,
+                demand,
+                top,
+                holder,
+            ),
+            whole,
         ),
         too_many(
             order,

@@ -1,4 +1,5 @@
 // Parts of an offence that are a matter of how many: too few and too many of one key at once.
+use crate::below_whole;
 use crate::keys;
 use crate::sooner;
 use columns::LIMIT;
@@ -8,7 +9,7 @@ ghost use Prim.Native.Nat.{_≤_};
 ghost use lib.ListN.{length};
 ghost use Rattle.meaning.specs.Block.{limit};
 ghost use Rattle.parts.specs.Ground.{Ground};
-ghost use Rattle.parts.specs.Parts.{ByFew, Small};
+ghost use Rattle.parts.specs.Parts.{ByFew, BelowWhole, Small};
 ghost use Rattle.crowds.specs.Crowds.{ByMany, Ordered};
 
 // A place no later than any at which a marked record is present, and no record whose key is its class is. Cost: three passes over n records, one
@@ -148,7 +149,7 @@ pub fn too_many(
     crowd(order, closes, key, lo, hi, n, high, own, tally, holder)
 }
 
-// A cardinality: too few of the class of a marked record, or too many of one key.
+// A cardinality: too few of the class of a marked record, at a place below `whole`, or too many of one key.
 pub fn cardinality(
     order: &[u16],
     closes: &[u16],
@@ -158,6 +159,7 @@ pub fn cardinality(
     lo: &[u16],
     hi: &[u16],
     n: usize,
+    whole: usize,
     low: usize,
     high: usize,
     demand: &mut [u16],
@@ -165,22 +167,25 @@ pub fn cardinality(
     holder: &mut [u16],
 ) -> u16
     requires { ⌜ (n ≤ limit) × Ground (now order) (now lo) (now hi) n × (n ≤ length (now marks)) × (n ≤ length (now key)) × Small n (now class) × Ordered (now order) (now lo) (now key) n × Ordered (now closes) (now hi) (now key) n × (n ≤ length (now demand)) × (n ≤ length (now top)) × (n ≤ length (now holder)) ⌝ }
-    ensures { λ r. ⌜ ByFew (now (order .entry)) (now (marks .entry)) (now (class .entry)) (now (key .entry)) (now (lo .entry)) (now (hi .entry)) n low r × ByMany (now (key .entry)) (now (lo .entry)) (now (hi .entry)) n high r ⌝ }
+    ensures { λ r. ⌜ BelowWhole (ByFew (now (order .entry)) (now (marks .entry)) (now (class .entry)) (now (key .entry)) (now (lo .entry)) (now (hi .entry)) n low) whole r × ByMany (now (key .entry)) (now (lo .entry)) (now (hi .entry)) n high r ⌝ }
 {
     sooner(
-        too_few(
-            order,
-            closes,
-            marks,
-            class,
-            key,
-            lo,
-            hi,
-            n,
-            low,
-            demand,
-            top,
-            holder,
+        below_whole(
+            too_few(
+                order,
+                closes,
+                marks,
+                class,
+                key,
+                lo,
+                hi,
+                n,
+                low,
+                demand,
+                top,
+                holder,
+            ),
+            whole,
         ),
         too_many(order, closes, key, lo, hi, n, high, demand, top, holder),
     )

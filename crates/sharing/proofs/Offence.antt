@@ -135,22 +135,22 @@ module _ (doc : Doc) (begins ends reps : List ℕ) (represents : Represents doc 
           behind (selected doc r v) (p v) _ _
           (λ s. ap₂ _||_ (lacking-is r w v s needy) (any-same _ _ 0 v (λ u a b. rival-is v s u)))
 
-      offends-is : (needy : Bool) → ((r .kind ≡ 1) × (needy ≡ true)) ⊎ ((r .kind ≡ 2) × (needy ≡ false)) → (v : ℕ)
-          → rowShares p (doc .size) rep (selected doc r) (inRow doc r) class needy v ≡ offendsIn doc p q r v
+      offends-is : (window : Window) (needy : Bool) → ((r .kind ≡ 1) × (needy ≡ true)) ⊎ ((r .kind ≡ 2) × (needy ≡ false)) → (v : ℕ)
+          → rowShares p (doc .size) rep (selected doc r) (inRow doc r) class needy v ≡ offendsIn doc p window q r v
       unfolding offendsIn byKind breaksIn keyIn
-      offends-is needy kinds v =
+      offends-is window needy kinds v =
           shares-is needy v
           ∙ ⊎-elim
-          (λ k. rw (k .1) (sym (ap (breaksIn doc p q r v) (k .0))))
-          (λ k. rw (k .1) (sym (ap (breaksIn doc p q r v) (k .0))))
+          (λ k. rw (k .1) (sym (ap (breaksIn doc p window q r v) (k .0))))
+          (λ k. rw (k .1) (sym (ap (breaksIn doc p window q r v) (k .0))))
           kinds
 
     -- what is known are the values of the rule referred to
     module _ (referred : (f : ℕ) → wants doc q f ≡ valued doc f) (known : ℕ → Bool)
         (stands : (y : ℕ) → known y ≡ any (holder p (doc .size) rep (selected doc q) (inRow doc q) y) 0 (doc .size)) where
-      misses-is : r .kind ≡ 3 → (v : ℕ) → rowMisses p (doc .size) rep (selected doc r) (inRow doc r) known v ≡ offendsIn doc p q r v
+      misses-is : (window : Window) → r .kind ≡ 3 → (v : ℕ) → rowMisses p (doc .size) rep (selected doc r) (inRow doc r) known v ≡ offendsIn doc p window q r v
       unfolding rowMisses offendsIn byKind breaksIn referenceIn present
-      misses-is kind v =
+      misses-is window kind v =
           behind (selected doc r v) (p v) _ (referenceIn doc p q r v)
           (λ s.
           asks-is r w v s _
@@ -158,7 +158,7 @@ module _ (doc : Doc) (begins ends reps : List ℕ) (represents : Represents doc 
           (λ f a b.
           and-same (gives doc p r v f) _ _
           (λ i. ap not (stands (rep f) ∙ any-same _ _ 0 (doc .size) (λ u c d. holder-is q referred f (gives-version r w v s f i) u)))))
-          ∙ sym (ap (breaksIn doc p q r v) kind)
+          ∙ sym (ap (breaksIn doc p window q r v) kind)
 
   -- the code's presence is the window's
   module _ (periods : Periods doc begins ends) (window : Window) (e : window .from ≡ from) (i : window .to ≡ to) where
@@ -170,30 +170,30 @@ module _ (doc : Doc) (begins ends reps : List ℕ) (represents : Represents doc 
     unfolding Agree
     during-agrees r v y = during-meets v (read-version doc r v y)
 
-    in-window : (q r : Rule) → offendsIn doc p q r ≡ offendsIn doc (meets doc window) q r
-    in-window q r = offends-in-agree doc p (meets doc window) q r (during-agrees r) (λ _. during-agrees q)
+    in-window : (q r : Rule) → offendsIn doc p window q r ≡ offendsIn doc (meets doc window) window q r
+    in-window q r = offends-in-agree doc p (meets doc window) q r (during-agrees r) (λ _. during-agrees q) window
 
 -- the first row that offends is the first version that does
 module _ (start : ℕ) (next last lower begins ends reps : List ℕ) (from to : ℕ) (doc : Doc) (q r : Rule) (w : Window) (s : Ready doc r start next last lower begins ends reps)
     (sequenced : isSequenced r ≡ false) (e : w .from ≡ from) (i : w .to ≡ to) where
-  answer-by : (bad : ℕ → Bool) → ((v : ℕ) → bad v ≡ offendsIn doc (during begins ends from to) q r v) → first bad 0 (doc .size) ≡ first (offendsIn doc (meets doc w) q r) 0 (doc .size)
+  answer-by : (bad : ℕ → Bool) → ((v : ℕ) → bad v ≡ offendsIn doc (during begins ends from to) w q r v) → first bad 0 (doc .size) ≡ first (offendsIn doc (meets doc w) w q r) 0 (doc .size)
   answer-by bad same =
       first-same _ _ 0 (doc .size) (λ v a b. same v)
       ∙ ap (λ (f : ℕ → Bool). first f 0 (doc .size)) (in-window doc begins ends reps (s .represents) from to (s .periods) w e i q r)
 
   pub shared-answer : (groups : List ℕ) → Groups doc groups → (needy : Bool) → ((r .kind ≡ 1) × (needy ≡ true)) ⊎ ((r .kind ≡ 2) × (needy ≡ false))
       → first (rowShares (during begins ends from to) (length begins) (λ f. getD reps f 0) (selected doc r) (inRow doc r) (λ v. getD groups v 0 + 1) needy) 0 (length begins)
-      ≡ first (offendsIn doc (meets doc w) q r) 0 (doc .size)
+      ≡ first (offendsIn doc (meets doc w) w q r) 0 (doc .size)
   shared-answer groups grouped needy kinds =
       rw (s .periods .begin .size)
-      (answer-by _ (offends-is doc begins ends reps (s .represents) from to q r sequenced groups grouped needy kinds))
+      (answer-by _ (offends-is doc begins ends reps (s .represents) from to q r sequenced groups grouped w needy kinds))
 
   pub missing-answer : (start′ : ℕ) (next′ last′ lower′ : List ℕ) → Referred doc q start′ next′ last′ lower′ begins ends reps → r .kind ≡ 3 → (known : ℕ → Bool)
       → ((y : ℕ) → known y ≡ any (holder (during begins ends from to) (length begins) (λ f. getD reps f 0) (selected doc q) (inRow doc q) y) 0 (length begins))
       → first (rowMisses (during begins ends from to) (length begins) (λ f. getD reps f 0) (selected doc r) (inRow doc r) known) 0 (length begins)
-      ≡ first (offendsIn doc (meets doc w) q r) 0 (doc .size)
+      ≡ first (offendsIn doc (meets doc w) w q r) 0 (doc .size)
   missing-answer start′ next′ last′ lower′ referred kind known holders =
       let n = s .periods .begin .size in
       rw n
       (answer-by _
-      (misses-is doc begins ends reps (s .represents) from to q r sequenced (referred .valued-only) known (λ y. rw n at (holders y)) kind))
+      (misses-is doc begins ends reps (s .represents) from to q r sequenced (referred .valued-only) known (λ y. rw n at (holders y)) w kind))

@@ -41,7 +41,7 @@ fn first_shared(
     owner: &mut [u16],
 ) -> Found
     requires { ⌜ ((doc : Doc) × (r : Rule) × Ready doc r start (now next) (now last) (now lower) (now begin) (now end) (now rep) × Groups doc (now group) × (doc .size ≤ limit) × Unowned (doc .size) (now owner)) ⌝ }
-    ensures { λ x. ⌜ ((doc : Doc) → (q r : Rule) → (w : Window) → Ready doc r start (now (next .entry)) (now (last .entry)) (now (lower .entry)) (now (begin .entry)) (now (end .entry)) (now (rep .entry)) → Groups doc (now (group .entry)) → isSequenced r ≡ false → w .from ≡ from → w .to ≡ to → (((r .kind ≡ 1) × (needy ≡ true)) ⊎ ((r .kind ≡ 2) × (needy ≡ false))) → x ≡ first (offendsIn doc (meets doc w) q r) 0 (doc .size)) ⌝ }
+    ensures { λ x. ⌜ ((doc : Doc) → (q r : Rule) → (w : Window) → Ready doc r start (now (next .entry)) (now (last .entry)) (now (lower .entry)) (now (begin .entry)) (now (end .entry)) (now (rep .entry)) → Groups doc (now (group .entry)) → isSequenced r ≡ false → w .from ≡ from → w .to ≡ to → (((r .kind ≡ 1) × (needy ≡ true)) ⊎ ((r .kind ≡ 2) × (needy ≡ false))) → x ≡ first (offendsIn doc (meets doc w) w q r) 0 (doc .size)) ⌝ }
 {
     let mut v = start;
     while v < begin.len() {
@@ -80,7 +80,7 @@ pub fn shared_in<'a>(
     to: usize,
 ) -> Found
     requires { ⌜ ((doc : Doc) × (r : Rule) × Ready doc r start (now next) (now last) (now lower) (now begin) (now end) (now rep) × Groups doc (now group) × (doc .size ≤ limit)) ⌝ }
-    ensures { λ x. ⌜ ((doc : Doc) → (q r : Rule) → (w : Window) → Ready doc r start (now (next .entry)) (now (last .entry)) (now (lower .entry)) (now (begin .entry)) (now (end .entry)) (now (rep .entry)) → Groups doc (now (group .entry)) → isSequenced r ≡ false → w .from ≡ from → w .to ≡ to → (((r .kind ≡ 1) × (needy ≡ true)) ⊎ ((r .kind ≡ 2) × (needy ≡ false))) → x ≡ first (offendsIn doc (meets doc w) q r) 0 (doc .size)) ⌝ }
+    ensures { λ x. ⌜ ((doc : Doc) → (q r : Rule) → (w : Window) → Ready doc r start (now (next .entry)) (now (last .entry)) (now (lower .entry)) (now (begin .entry)) (now (end .entry)) (now (rep .entry)) → Groups doc (now (group .entry)) → isSequenced r ≡ false → w .from ≡ from → w .to ≡ to → (((r .kind ≡ 1) × (needy ≡ true)) ⊎ ((r .kind ≡ 2) × (needy ≡ false))) → x ≡ first (offendsIn doc (meets doc w) w q r) 0 (doc .size)) ⌝ }
 {
     let mut owner = [0u16; LIMIT];
     first_shared(
@@ -166,7 +166,7 @@ pub fn missing_in<'a>(
     to: usize,
 ) -> Found
     requires { ⌜ ((doc : Doc) × (r : Rule) × (p : Rule) × Ready doc r start (now next) (now last) (now lower) (now begin) (now end) (now rep) × Ready doc p «held_start» (now «held_next») (now «held_last») (now «held_lower») (now begin) (now end) (now rep) × (doc .size ≤ limit)) ⌝ }
-    ensures { λ x. ⌜ ((doc : Doc) → (q r : Rule) → (w : Window) → Ready doc r start (now (next .entry)) (now (last .entry)) (now (lower .entry)) (now (begin .entry)) (now (end .entry)) (now (rep .entry)) → Referred doc q «held_start» (now («held_next» .entry)) (now («held_last» .entry)) (now («held_lower» .entry)) (now (begin .entry)) (now (end .entry)) (now (rep .entry)) → isSequenced r ≡ false → r .kind ≡ 3 → w .from ≡ from → w .to ≡ to → x ≡ first (offendsIn doc (meets doc w) q r) 0 (doc .size)) ⌝ }
+    ensures { λ x. ⌜ ((doc : Doc) → (q r : Rule) → (w : Window) → Ready doc r start (now (next .entry)) (now (last .entry)) (now (lower .entry)) (now (begin .entry)) (now (end .entry)) (now (rep .entry)) → Referred doc q «held_start» (now («held_next» .entry)) (now («held_last» .entry)) (now («held_lower» .entry)) (now (begin .entry)) (now (end .entry)) (now (rep .entry)) → isSequenced r ≡ false → r .kind ≡ 3 → w .from ≡ from → w .to ≡ to → x ≡ first (offendsIn doc (meets doc w) w q r) 0 (doc .size)) ⌝ }
 {
     let mut seen = [0u8; LIMIT];
     mark_rows(

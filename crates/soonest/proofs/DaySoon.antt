@@ -24,7 +24,7 @@ use Rattle.places.specs.Placing.{windowAt}
 use Rattle.soonest.specs.Soon.{offendsAt, Soon}
 use Rattle.soonest.specs.Lined.{Lined, ChosenIn, RowsIn}
 use Rattle.crowds.specs.Crowds.{ByMany}
-use Rattle.parts.specs.Parts.{ByTwice, ByShared, ByFew}
+use Rattle.parts.specs.Parts.{ByTwice, ByShared, ByFew, BelowWhole}
 use Rattle.parts.specs.Matched.{ByUnmatched}
 use Rattle.soonest.proofs.Nested.{meets-nested}
 use Rattle.soonest.proofs.DayOffences.{key-offence, unique-offence, reference-offence, cardinality-offence, datatype-offence}
@@ -32,9 +32,9 @@ use Rattle.soonest.proofs.Sweeping.{row-is, some-soon, twice-soon, shar
 
 -- where each offence is at D or later, D is soon enough
 pub soon-from : (doc : Doc) (q r : Rule) (places : Places) (D : ℕ)
-    → ((k v : ℕ) → k < places .count → offendsAt doc (meets doc (windowAt places k)) q r v ≡ true → D ≤ k) → Soon doc q r places D
+    → ((k v : ℕ) → k < places .count → offendsAt doc (windowAt places k) q r v ≡ true → D ≤ k) → Soon doc q r places D
 unfolding Soon
-soon-from doc q r places D late k v h l = never (offendsAt doc (meets doc (windowAt places k)) q r v) (λ e. omega (arith, late k v h e))
+soon-from doc q r places D late k v h l = never (offendsAt doc (windowAt places k) q r v) (λ e. omega (arith, late k v h e))
 
 module _ (doc : Doc) (q r : Rule) (places : Places) (order lo hi : List ℕ) (lined : Lined doc places order lo hi) (judgeable : Judgeable doc)
     (sequenced : isSequenced r ≡ true) (rows : List ℕ) (keys : Keys doc r rows) (read : RowsIn doc (lined .begun .member) r) (D : ℕ) where
@@ -80,13 +80,15 @@ module _ (doc : Doc) (q r : Rule) (places : Places) (order lo hi : List ℕ) (li
 
   -- too few or too many in a row
   pub cardinality-days : (chosen own : List ℕ) → Marks (selected doc r) (doc .size) chosen → ChosenIn doc (lined .begun .member) r → ((x : ℕ) → x < doc .size → at own x ≡ x) → (low high : ℕ)
-      → pos low ≡ r .low → pos high ≡ r .high → ByFew order chosen own rows lo hi (doc .size) low D → ByMany rows lo hi (doc .size) high D → r .kind ≡ 4
-      → Soon doc q r places D
-  cardinality-days chosen own marks chosen-in numbers low high l m few many kind =
+      → pos low ≡ r .low → pos high ≡ r .high → (whole : ℕ) → places .count ≤ whole → BelowWhole (ByFew order chosen own rows lo hi (doc .size) low) whole D
+      → ByMany rows lo hi (doc .size) high D → r .kind ≡ 4 → Soon doc q r places D
+  cardinality-days chosen own marks chosen-in numbers low high l m whole all few many kind =
       on-day (λ k v h e.
       let s = cardinality-offence doc (meets doc (windowAt places k)) q r v e sequenced kind low high l m in
       ⊎-elim
-      (few-soon doc places order lo hi lined k h r rows keys read chosen own marks chosen-in numbers (s .v) (s .chosen) low D few (s .here))
+      (λ c.
+      few .no-later k (omega arith)
+      (few-soon doc places order lo hi lined k h r rows keys read chosen own marks chosen-in numbers (s .v) (s .chosen) low (few .place) (few .promised) (s .here) c))
       (many-soon doc places order lo hi lined k h r rows keys read chosen own marks chosen-in numbers (s .v) (s .chosen) high D many)
       (s .outside))
 

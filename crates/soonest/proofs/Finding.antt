@@ -22,7 +22,7 @@ use Rattle.distinct.specs.Values.{ByManyValues}
 use Rattle.places.specs.declared.Places.{Places}
 use Rattle.parts.specs.Ground.{Ground}
 use Rattle.parts.specs.Keyed.{Numbered}
-use Rattle.parts.specs.Parts.{ByTwice, ByShared, ByUnheld, ByFew, ByFewValues, Small}
+use Rattle.parts.specs.Parts.{ByTwice, ByShared, ByUnheld, ByFew, ByFewValues, BelowWhole, Small}
 use Rattle.parts.specs.Matched.{ByUnmatched}
 use Rattle.soonest.specs.Soon.{Soon}
 use Rattle.soonest.specs.Swept.{Swept}
@@ -124,12 +124,12 @@ module _ (doc : Doc) (q r : Rule) (places : Places) (order closes chosen rows ot
       numbers : (x : ℕ) → x < doc .size → at own x ≡ x
       numbers x h = numbered .key x (omega arith)
 
-      pub cardinality-found : kind ≡ 4 → ByFew order chosen own rows lo hi n low D → ByMany rows lo hi n high D → Soon doc q r places D
-      cardinality-found k few many =
+      pub cardinality-found : kind ≡ 4 → (whole : ℕ) → 65535 ≤ whole → BelowWhole (ByFew order chosen own rows lo hi n low) whole D → ByMany rows lo hi n high D → Soon doc q r places D
+      cardinality-found k whole all few many =
           let is : r .kind ≡ 4 = sym (s .kind-is) ∙ k in
           let b = s .bounds is in
           cardinality-days doc q r places order lo hi (s .lined) (s .judgeable) sequenced rows (s .rows-are) (s .rows-in) D chosen own (s .chosen-are) (s .chosen-in (inr k)) numbers low high (b .0) (b .1)
-          (rw (← e) at few) (rw (← e) at many) is
+          whole (omega (arith, s .counted .count-most)) (rw (← e) at few) (rw (← e) at many) is
 
       pub key-found : kind ≡ 1 → ByFew order chosen own rows lo hi n 1 D → ByTwice order rows lo hi n D → ByShared order rows reps rows lo hi n D → Soon doc q r places D
       key-found k few twice shared =
@@ -158,21 +158,21 @@ module _ (doc : Doc) (q r : Rule) (places : Places) (order closes chosen rows ot
           chosen own (s .chosen-are) (s .chosen-in (inl k)) (λ x h. numbered .key x (omega arith)) (rw (← e) at few) (sym (s .kind-is) ∙ k)
 
       -- a cardinality, by whether values are counted
-      module _ (k : kind ≡ 4) (distinct : ℕ) (told : distinct ≡ r .distinct) where
+      module _ (k : kind ≡ 4) (distinct : ℕ) (told : distinct ≡ r .distinct) (whole : ℕ) (is-whole : whole ≡ places .whole) where
         of-four : r .kind ≡ 4
         of-four = sym (s .kind-is) ∙ k
 
-        pub cardinality-met : (distinct ≡ 1 → ⊥) → ByFew order chosen groups nums lo hi n low D → ByMany nums lo hi n high D → Soon doc q r places D
+        pub cardinality-met : (distinct ≡ 1 → ⊥) → BelowWhole (ByFew order chosen groups nums lo hi n low) whole D → ByMany nums lo hi n high D → Soon doc q r places D
         cardinality-met every few many =
             let b = s .bounds of-four in
             cardinality-windows doc q r places order lo hi (s .lined) (s .judgeable) windowed rows (s .rows-are) (s .rows-in) D groups nums classes each-here chosen (s .chosen-are) (s .chosen-in (inr k)) low high
-            (ne-eqb (r .distinct) 1 (λ e. every (told ∙ e))) (b .0) (b .1) (rw (← e) at few) (rw (← e) at many) of-four
+            (ne-eqb (r .distinct) 1 (λ e. every (told ∙ e))) (b .0) (b .1) (s .counted) whole is-whole (rw (← e) at few) (rw (← e) at many) of-four
 
-        pub values-met : distinct ≡ 1 → ByFewValues order chosen groups nums reps lo hi n low D → ByManyValues nums reps lo hi n high D → Soon doc q r places D
+        pub values-met : distinct ≡ 1 → BelowWhole (ByFewValues order chosen groups nums reps lo hi n low) whole D → ByManyValues nums reps lo hi n high D → Soon doc q r places D
         values-met one few many =
             let b = s .bounds of-four in
             value-windows doc q r places order lo hi (s .lined) (s .judgeable) windowed rows (s .rows-are) (s .rows-in) D groups nums classes each-here reps (s .represents) chosen (s .chosen-are) (s .chosen-in (inr k)) low high
-            (eq-eqb (r .distinct) 1 (sym told ∙ one)) (b .0) (b .1) (rw (← e) at few) (rw (← e) at many) of-four
+            (eq-eqb (r .distinct) 1 (sym told ∙ one)) (b .0) (b .1) (s .counted) whole is-whole (rw (← e) at few) (rw (← e) at many) of-four
 
 -- a kind that is none of the others
 pub left-one : (kind : ℕ) → 1 ≤ kind → (kind ≡ 2 → ⊥) → (kind ≡ 3 → ⊥) → kind < 5 → (kind ≡ 4 → ⊥) → kind ≡ 1

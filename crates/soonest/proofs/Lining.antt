@@ -214,6 +214,7 @@ module _ (doc : Doc) (q r : Rule) (places : Places) (vkinds : List ℕ) (values 
           unfolding begun-of lined-of
           swept-of late low high mode f t asks ended =
               record {
+                counted = g .counted;
                 lined = lined-of;
                 by-end = ended;
                 judgeable = g .judgeable;

@@ -1,11 +1,12 @@
 -- What an offender in a window comes to, by the kind of its rule.
 use mathlib.Core.Path.{_≡_, refl, sym, _∙_, ap}
 use mathlib.Core.Logic.{_⊎_, inl, inr, ⊎-elim}
-use mathlib.Core.Bool.{Bool, true, false, _&&_, not, and-false}
+use mathlib.Core.Bool.{Bool, true, false, _&&_, _||_, not, and-false}
 use mathlib.Core.List.{List}
 use Prim.Native.Nat.{ℕ, zero, suc, _≤_, _<_}
 use native.Mathlib.Omega.{arith}
 use lib.IntN.{pos}
+use lib.Signed.{leZ}
 use lib.Dec.{leb, eqb}
 use lib.ListN.{getD}
 use borrow.Author.Tests.{leb-false, ltb-true, not-true}
@@ -13,9 +14,9 @@ use Rattle.meaning.specs.declared.Rule.{Rule}
 use Rattle.meaning.specs.Walk.{any, count, first}
 use Rattle.meaning.specs.Document.{Doc, numberOf}
 use Rattle.meaning.specs.Rules.{byKind, isSequenced}
-use Rattle.meaning.specs.Select.{selected, valued, sameValue, within, present, gives, has}
-use Rattle.meaning.specs.Window.{Window, meets, valueless, shares, sharedIn, keyIn, referenceIn, under, counts, cardinalityIn, breaksIn, offendsIn}
-use Rattle.meaning.proofs.Basics.{went, le-or-lt, clear, and-l, and-r, both, and-else, or-cases}
+use Rattle.meaning.specs.Select.{selected, valued, sameValue, present, gives, has}
+use Rattle.meaning.specs.Window.{Window, shortened, meets, valueless, shares, sharedIn, keyIn, referenceIn, under, counts, cardinalityIn, breaksIn, offendsIn}
+use Rattle.meaning.proofs.Basics.{went, le-or-lt, clear, and-l, and-r, both, and-else, or-cases, neither-l, neither-r}
 use Rattle.meaning.proofs.Walks.{Passes, Lowest, any-some, any-true, any-none, first-found, first-nothing}
 use Rattle.meaning.proofs.Says.{says}
 use Rattle.meaning.proofs.Selects.{version-here, selected-here}
@@ -121,11 +122,11 @@ module _ (doc : Doc) (p : ℕ → Bool) (r : Rule) (flat : isSequenced r ≡ fal
       }
 
 -- An offender of a key, a unique rule and a reference.
-module _ (doc : Doc) (p : ℕ → Bool) (q r : Rule) (flat : isSequenced r ≡ false) (v : ℕ) (bad : offendsIn doc p q r v ≡ true) where
+module _ (doc : Doc) (p : ℕ → Bool) (w : Window) (q r : Rule) (flat : isSequenced r ≡ false) (v : ℕ) (bad : offendsIn doc p w q r v ≡ true) where
   -- the offence by the kind
-  broken : (k : ℕ) → r .kind ≡ k → breaksIn doc p q r v k ≡ true
+  broken : (k : ℕ) → r .kind ≡ k → breaksIn doc p w q r v k ≡ true
   unfolding offendsIn
-  broken k e = ap (breaksIn doc p q r v) (sym e) ∙ bad
+  broken k e = ap (breaksIn doc p w q r v) (sym e) ∙ bad
 
   -- a key: a version lacks a value, or two of different item numbers share one
   pub key-offence : r .kind ≡ 1 → Lacks doc p r ⊎ Shared doc p r (numberOf doc)
@@ -209,12 +210,12 @@ pub record More (doc : Doc) (p : ℕ → Bool) (r : Rule) (high : ℕ) : Type 0 
   pub here : p v ≡ true
   pub more : high < count (λ f. inGroup doc r (numberOf doc v) f && p f) 0 (doc .size)
 
--- a number that is not within a rule's bounds lies below the one or above the other
-outside-cases : (r : Rule) (low high c : ℕ) → pos low ≡ r .low → pos high ≡ r .high → not (within r (pos c)) ≡ true → (c < low) ⊎ (high < c)
-unfolding within
-outside-cases r low high c l h e =
-    let out : leb low c && leb c high ≡ false = rw (sym l, sym h) at (not-true (within r (pos c)) e) in
-    and-else (leb low c) (leb c high) (λ z. inl (leb-false low c z)) (λ z. inr (leb-false c high z)) out
+-- a number that is not within a rule's bounds lies below the one, where that is asked, or above the other
+outside-cases : (short : Bool) (r : Rule) (low high c : ℕ) → pos low ≡ r .low → pos high ≡ r .high → not ((short || leZ (r .low) (pos c)) && leZ (pos c) (r .high)) ≡ true
+    → ((short ≡ false) × (c < low)) ⊎ (high < c)
+outside-cases short r low high c l h e =
+    let out : (short || leb low c) && leb c high ≡ false = rw (sym l, sym h) at (not-true ((short || leZ (r .low) (pos c)) && leZ (pos c) (r .high)) e) in
+    and-else (short || leb low c) (leb c high) (λ z. inl (neither-l short (leb low c) z, leb-false low c (neither-r short (leb low c) z))) (λ z. inr (leb-false c high z)) out
 
 module _ (doc : Doc) (p : ℕ → Bool) (r : Rule) (flat : isSequenced r ≡ false) (n : ℕ) where
   -- what is under an item number is a present one of its group
@@ -252,20 +253,20 @@ module _ (doc : Doc) (p : ℕ → Bool) (r : Rule) (flat : isSequenced r ≡ fal
   every-counts every f e = rw (every, e) refl
 
 -- An offender of a cardinality, be it of values or of field versions.
-module _ (doc : Doc) (p : ℕ → Bool) (q r : Rule) (flat : isSequenced r ≡ false) (low high : ℕ) where
-  -- too few are counted under its item number, or too many
-  pub counted-offence : pos low ≡ r .low → pos high ≡ r .high → r .kind ≡ 4 → (v : ℕ) → offendsIn doc p q r v ≡ true → Fewer doc p r low ⊎ Beyond doc p r high
+module _ (doc : Doc) (p : ℕ → Bool) (w : Window) (q r : Rule) (flat : isSequenced r ≡ false) (low high : ℕ) where
+  -- too few are counted under its item number, and the window is not shortened, or too many
+  pub counted-offence : pos low ≡ r .low → pos high ≡ r .high → r .kind ≡ 4 → (v : ℕ) → offendsIn doc p w q r v ≡ true → ((shortened w ≡ false) × Fewer doc p r low) ⊎ Beyond doc p r high
   unfolding byKind breaksIn cardinalityIn
   counted-offence l h k v bad =
-      let b = broken doc p q r flat v bad 4 k in
+      let b = broken doc p w q r flat v bad 4 k in
       let here = present-chosen doc p r v (and-l (present doc p r v) _ b) in
       ⊎-elim
-      (λ c. inl (record { v = v; chosen = here .0; here = here .1; fewer = c }))
+      (λ c. inl (c .0, record { v = v; chosen = here .0; here = here .1; fewer = c .1 }))
       (λ c. inr (record { v = v; chosen = here .0; here = here .1; beyond = c }))
-      (outside-cases r low high _ l h (and-r (present doc p r v) _ b))
+      (outside-cases (shortened w) r low high _ l h (and-r (present doc p r v) _ b))
 
   -- those counted are present
-  pub cardinality-offence : pos low ≡ r .low → pos high ≡ r .high → r .kind ≡ 4 → (v : ℕ) → offendsIn doc p q r v ≡ true → Fewer doc p r low ⊎ More doc p r high
+  pub cardinality-offence : pos low ≡ r .low → pos high ≡ r .high → r .kind ≡ 4 → (v : ℕ) → offendsIn doc p w q r v ≡ true → ((shortened w ≡ false) × Fewer doc p r low) ⊎ More doc p r high
   cardinality-offence l h k v bad =
       ⊎-elim
       (λ s. inl s)
@@ -352,7 +353,7 @@ pub record Wrong (doc : Doc) (p : ℕ → Bool) (r : Rule) (reach : List ℕ) (f
 -- An offender of a datatype, itself a field version, in a window.
 module _ (doc : Doc) (q r : Rule) (ok : Judgeable doc) (flat : isSequenced r ≡ false) (w : Window) (reach : List ℕ) (s : Reaches doc r reach) where
   -- it is present, in a row, and its reach lies after the first day
-  pub datatype-offence : w .from ≤ 36524 → r .kind ≡ 5 → (f : ℕ) → offendsIn doc (meets doc w) q r f ≡ true → Wrong doc (meets doc w) r reach (w .from) f
+  pub datatype-offence : w .from ≤ 36524 → r .kind ≡ 5 → (f : ℕ) → offendsIn doc (meets doc w) w q r f ≡ true → Wrong doc (meets doc w) r reach (w .from) f
   unfolding wrongAfter
   datatype-offence l k f bad =
       let e : wrongAfter doc r f (w .from) && meets doc w f ≡ true = sym (offends-in doc r ok flat w q f k) ∙ bad in

@@ -7,12 +7,12 @@ use Prim.Native.Nat.{ℕ, _≤_, _<_}
 use native.Mathlib.Omega.{arith}
 use lib.IntN.{pos}
 use lib.Dec.{ltb, eqb}
-use borrow.Author.Tests.{ltb-true, eqb-true, eq-eqb}
+use borrow.Author.Tests.{leb-false, ltb-true, eqb-true, eq-eqb}
 use Rattle.meaning.specs.declared.Rule.{Rule}
 use Rattle.meaning.specs.Document.{Doc, isVersion, numberOf}
 use Rattle.meaning.specs.Rules.{isSequenced}
 use Rattle.meaning.specs.Select.{selected, valued}
-use Rattle.meaning.specs.Window.{meets, offendsIn, least}
+use Rattle.meaning.specs.Window.{shortened, meets, offendsIn, least}
 use Rattle.meaning.proofs.Basics.{le-or-lt, and-l, and-r}
 use Rattle.meaning.proofs.Selects.{selected-version}
 use Rattle.columns.specs.Judgeable.{Judgeable}
@@ -26,13 +26,14 @@ use Rattle.groups.proofs.Gathering.{class-here}
 use Rattle.passes.specs.Passes.{at, ByLeast}
 use Rattle.places.specs.declared.Places.{Places}
 use Rattle.places.proofs.Days.{least-above}
+use Rattle.places.proofs.Shortened.{shortened-at}
 use Rattle.places.specs.Placing.{startOf, endOf, windowAt, Counted, High}
 use Rattle.soonest.specs.Soon.{offendsAt, Soon}
 use Rattle.soonest.specs.Lined.{Begun, Lined, ChosenIn, RowsIn}
 use Rattle.soonest.specs.Given.{Reaching}
 use Rattle.crowds.specs.Crowds.{ByMany}
 use Rattle.distinct.specs.Values.{ByManyValues}
-use Rattle.parts.specs.Parts.{ByShared, ByUnheld, ByFew, ByFewValues}
+use Rattle.parts.specs.Parts.{ByShared, ByUnheld, ByFew, ByFewValues, BelowWhole}
 use Rattle.soonest.proofs.Nested.{meets-nested}
 use Rattle.soonest.proofs.WindowOffences.{key-offence, unique-offence, reference-offence, cardinality-offence, counted-offence, fewer-present, datatype-offence}
 use Rattle.soonest.proofs.Sweeping.{stands, row-is, row-held, row-chosen, row-here, shared-soon, few-numbered, many-numbered, lacks-soon, unheld-soon}
@@ -42,7 +43,7 @@ use Rattle.soonest.proofs.DaySoon.{soon-from}
 module _ (doc : Doc) (q r : Rule) (places : Places) (order lo hi : List ℕ) (lined : Lined doc places order lo hi) (judgeable : Judgeable doc)
     (windowed : isSequenced r ≡ false) (rows : List ℕ) (keys : Keys doc r rows) (read : RowsIn doc (lined .begun .member) r) (D : ℕ) where
   -- an offence as in a window
-  in-window : ((k v : ℕ) → k < places .count → offendsIn doc (meets doc (windowAt places k)) q r v ≡ true → D ≤ k) → Soon doc q r places D
+  in-window : ((k v : ℕ) → k < places .count → offendsIn doc (meets doc (windowAt places k)) (windowAt places k) q r v ≡ true → D ≤ k) → Soon doc q r places D
   unfolding offendsAt
   in-window late = soon-from doc q r places D (λ k v h e. late k v h (rw windowed at e))
 
@@ -65,7 +66,7 @@ module _ (doc : Doc) (q r : Rule) (places : Places) (order lo hi : List ℕ) (li
       unique-windows kind =
           in-window (λ k v h e.
           shared-soon doc places order lo hi lined k h r rows keys read reps represents (numberOf doc) nums numbers-tell D shared
-          (unique-offence doc (meets doc (windowAt places k)) q r windowed v e kind))
+          (unique-offence doc (meets doc (windowAt places k)) (windowAt places k) q r windowed v e kind))
 
       -- or no value
       pub key-windows : (chosen own : List ℕ) → Marks (selected doc r) (doc .size) chosen → ChosenIn doc (lined .begun .member) r → ((x : ℕ) → x < doc .size → at own x ≡ x)
@@ -75,38 +76,50 @@ module _ (doc : Doc) (q r : Rule) (places : Places) (order lo hi : List ℕ) (li
           ⊎-elim
           (lacks-soon doc places order lo hi lined k h r rows keys read chosen own marks chosen-in numbers D few)
           (shared-soon doc places order lo hi lined k h r rows keys read reps represents (numberOf doc) nums numbers-tell D shared)
-          (key-offence doc (meets doc (windowAt places k)) q r windowed v e kind))
+          (key-offence doc (meets doc (windowAt places k)) (windowAt places k) q r windowed v e kind))
+
+    -- no minimum is asked from place `whole` on
+    module _ (whole : ℕ) (is-whole : whole ≡ places .whole) (counted : Counted places) (k : ℕ) (h : k < places .count) (long : shortened (windowAt places k) ≡ false) where
+      before-whole : k < whole
+      before-whole = omega (arith, leb-false (places .whole) k (sym (shortened-at counted k h) ∙ long))
+
+      sooner-whole : (P : ℕ → Type 0) (few : BelowWhole P whole D) → few .place ≤ k → D ≤ k
+      sooner-whole P few l = few .no-later k before-whole l
 
     -- under an item number too few, or too many, where every version counts
     pub cardinality-windows : (chosen : List ℕ) → Marks (selected doc r) (doc .size) chosen → ChosenIn doc (lined .begun .member) r → (low high : ℕ) → eqb (r .distinct) 1 ≡ false
-        → pos low ≡ r .low → pos high ≡ r .high → ByFew order chosen groups nums lo hi (doc .size) low D → ByMany nums lo hi (doc .size) high D → r .kind ≡ 4
-        → Soon doc q r places D
-    cardinality-windows chosen marks chosen-in low high every l m few many kind =
+        → pos low ≡ r .low → pos high ≡ r .high → Counted places → (whole : ℕ) → whole ≡ places .whole → BelowWhole (ByFew order chosen groups nums lo hi (doc .size) low) whole D
+        → ByMany nums lo hi (doc .size) high D → r .kind ≡ 4 → Soon doc q r places D
+    cardinality-windows chosen marks chosen-in low high every l m counted whole is-whole few many kind =
         in-window (λ k v h e.
         let p = meets doc (windowAt places k) in
         ⊎-elim
-        (λ s.
-        few-numbered doc places order lo hi lined k h r rows keys read groups nums (judgeable .few) classes each (s .v) (s .chosen) chosen marks chosen-in low D few (s .here)
-        (fewer-present doc p q r windowed low high (meets-nested doc judgeable (windowAt places k) r) every s))
+        (λ t.
+        let s = t .1 in
+        sooner-whole whole is-whole counted k h (t .0) _ few
+        (few-numbered doc places order lo hi lined k h r rows keys read groups nums (judgeable .few) classes each (s .v) (s .chosen) chosen marks chosen-in low (few .place) (few .promised) (s .here)
+        (fewer-present doc p (windowAt places k) q r windowed low high (meets-nested doc judgeable (windowAt places k) r) every s)))
         (λ s.
         many-numbered doc places order lo hi lined k h r rows keys read groups nums (judgeable .few) classes each (s .v) (s .chosen) high D many (s .more))
-        (cardinality-offence doc p q r windowed low high l m kind v e))
+        (cardinality-offence doc p (windowAt places k) q r windowed low high l m kind v e))
 
     -- too few values, or too many, where values are counted
     pub value-windows : (reps : List ℕ) → Represents doc reps → (chosen : List ℕ) → Marks (selected doc r) (doc .size) chosen → ChosenIn doc (lined .begun .member) r → (low high : ℕ)
-        → eqb (r .distinct) 1 ≡ true → pos low ≡ r .low → pos high ≡ r .high → ByFewValues order chosen groups nums reps lo hi (doc .size) low D
-        → ByManyValues nums reps lo hi (doc .size) high D → r .kind ≡ 4 → Soon doc q r places D
-    value-windows reps represents chosen marks chosen-in low high distinct l m few many kind =
+        → eqb (r .distinct) 1 ≡ true → pos low ≡ r .low → pos high ≡ r .high → Counted places → (whole : ℕ) → whole ≡ places .whole
+        → BelowWhole (ByFewValues order chosen groups nums reps lo hi (doc .size) low) whole D → ByManyValues nums reps lo hi (doc .size) high D → r .kind ≡ 4 → Soon doc q r places D
+    value-windows reps represents chosen marks chosen-in low high distinct l m counted whole is-whole few many kind =
         in-window (λ k v h e.
         let p = meets doc (windowAt places k) in
         let held = meets-nested doc judgeable (windowAt places k) r in
         ⊎-elim
-        (λ s.
-        few-valued doc places order lo hi lined k h r windowed held distinct rows keys read groups nums reps (judgeable .few) classes represents each (s .v) (s .chosen) chosen marks chosen-in low D few
-        (s .here) (s .fewer))
+        (λ t.
+        let s = t .1 in
+        sooner-whole whole is-whole counted k h (t .0) _ few
+        (few-valued doc places order lo hi lined k h r windowed held distinct rows keys read groups nums reps (judgeable .few) classes represents each (s .v) (s .chosen) chosen marks chosen-in low
+        (few .place) (few .promised) (s .here) (s .fewer)))
         (λ s.
         many-valued doc places order lo hi lined k h r windowed held distinct rows keys read groups nums reps (judgeable .few) classes represents each (s .v) (s .chosen) high D many (s .beyond))
-        (counted-offence doc p q r windowed low high l m kind v e))
+        (counted-offence doc p (windowAt places k) q r windowed low high l m kind v e))
 
   -- a value that no row of the other rule has
   pub reference-windows : (reps : List ℕ) → Represents doc reps → (others : List ℕ) → Keys doc q others → ((f : ℕ) → wants doc q f ≡ valued doc f)
@@ -114,7 +127,7 @@ module _ (doc : Doc) (q r : Rule) (places : Places) (order lo hi : List ℕ) (li
   reference-windows reps represents others other-keys wanted unheld kind =
       in-window (λ k v h e.
       unheld-soon doc places order lo hi lined k h r q rows others reps keys other-keys represents read D unheld
-      (reference-offence doc (meets doc (windowAt places k)) q r windowed v e wanted (meets-nested doc judgeable (windowAt places k) q) kind))
+      (reference-offence doc (meets doc (windowAt places k)) (windowAt places k) q r windowed v e wanted (meets-nested doc judgeable (windowAt places k) q) kind))
 
 -- a value that is no number, or a wrong step from one that the window reaches back to
 pub datatype-windows : (doc : Doc) (q r : Rule) (places : Places) (order lo rows until : List ℕ) (n D : ℕ) → ByLeast order rows lo until n D → doc .size ≡ n

@@ -16,6 +16,7 @@ use Rattle.values.specs.Represents.{Represents}
 use Rattle.prepare.specs.Rows.{wants}
 use Rattle.prepare.specs.Keys.{Keys}
 use Rattle.places.specs.declared.Places.{Places}
+use Rattle.places.specs.Placing.{Counted}
 use Rattle.soonest.specs.Lined.{Line, Lined, ChosenIn, RowsIn}
 
 -- the kind looks at the selected versions themselves: a key, a cardinality
@@ -24,6 +25,7 @@ Asks kind = (kind ≡ 1) ⊎ (kind ≡ 4)
 
 -- rule r, which refers to q if it is a reference
 pub record Swept (doc : Doc) (q r : Rule) (places : Places) (order closes chosen rows others reps lo hi : List ℕ) (kind low high : ℕ) : Type 0 where
+  pub counted : Counted places
   pub lined : Lined doc places order lo hi
   pub by-end : kind ≡ 4 → Line (lined .begun .member) hi closes
   pub judgeable : Judgeable doc

@@ -51,8 +51,8 @@ fn key(
 }
 
 // The soonest window, from 0, of a rule that is no datatype: nothing offends in any window before it. Four columns are lent, two for keys and two for
-// what a sweep keeps by key; what they hold beforehand is of no account. Cost: that of the parts that the kind has, and a pass over the records for
-// the classes of their rows.
+// what a sweep keeps by key; what they hold beforehand is of no account. From window `whole` on they are shortened, and no minimum is asked. Cost: that of the
+// parts that the kind has, and a pass over the records for the classes of their rows.
 pub fn in_windows(
     kind: u8,
     low: usize,
@@ -68,13 +68,14 @@ pub fn in_windows(
     lo: &[u16],
     hi: &[u16],
     n: usize,
+    whole: usize,
     number: &mut [u16],
     value: &mut [u16],
     top: &mut [u16],
     holder: &mut [u16],
 ) -> u16
     requires { ⌜ Room n (now number) (now value) (now top) (now holder) × ((doc : Doc) × (q : Rule) × (r : Rule) × (places : Places) × Swept doc q r places (now order) (now closes) (now chosen) (now row) (now other) (now rep) (now lo) (now hi) kind low high × Groups doc (now group) × (doc .size ≡ n)) ⌝ }
-    ensures { λ x. ⌜ ((doc : Doc) → (q r : Rule) → (places : Places) → Swept doc q r places (now (order .entry)) (now (closes .entry)) (now (chosen .entry)) (now (row .entry)) (now (other .entry)) (now (rep .entry)) (now (lo .entry)) (now (hi .entry)) kind low high → Groups doc (now (group .entry)) → doc .size ≡ n → isSequenced r ≡ false → (5 ≤ kind → ⊥) → distinct ≡ r .distinct → Soon doc q r places x) ⌝ }
+    ensures { λ x. ⌜ ((doc : Doc) → (q r : Rule) → (places : Places) → Swept doc q r places (now (order .entry)) (now (closes .entry)) (now (chosen .entry)) (now (row .entry)) (now (other .entry)) (now (rep .entry)) (now (lo .entry)) (now (hi .entry)) kind low high → Groups doc (now (group .entry)) → doc .size ≡ n → isSequenced r ≡ false → (5 ≤ kind → ⊥) → distinct ≡ r .distinct → whole ≡ places .whole → Soon doc q r places x) ⌝ }
 {
     if kind == 3 {
         return holders::unheld(
@@ -123,6 +124,7 @@ pub fn in_windows(
             lo,
             hi,
             n,
+            whole,
             low,
             high,
             value,
@@ -139,6 +141,7 @@ pub fn in_windows(
         lo,
         hi,
         n,
+        whole,
         low,
         high,
         value,

@@ -1,9 +1,11 @@
 // The soonest day of a sequenced rule's period on which it can fail, by its kind.
+use numbers::index;
 use parts::alone;
 use parts::counts;
 use parts::holders;
 use parts::keys;
 use parts::sooner;
+use passes::NEVER;
 ghost use mathlib.Core.Path.{_≡_};
 ghost use mathlib.Core.Bool.{true};
 ghost use Prim.Native.Nat.{_≤_};
@@ -132,6 +134,7 @@ pub fn on_days(
             lo,
             hi,
             n,
+            index(NEVER),
             low,
             high,
             value,

@@ -40,13 +40,14 @@ fn swept_lent(
     high: usize,
     rule: Rule,
     n: usize,
+    whole: usize,
     own: &mut [u16],
     value: &mut [u16],
     top: &mut [u16],
     holder: &mut [u16],
 ) -> u16
     requires { ⌜ Room n (now own) (now value) (now top) (now holder) × ((doc : Doc) × (q : Rule) × (at : Places) × Swept doc q rule at (now order) (now closes) (now chosen) (now row) (now other) (now rep) (now lo) (now hi) (rule .kind) low high × Groups doc (now group) × (doc .size ≡ n)) ⌝ }
-    ensures { λ x. ⌜ ((doc : Doc) → (q : Rule) → (at : Places) → Swept doc q rule at (now (order .entry)) (now (closes .entry)) (now (chosen .entry)) (now (row .entry)) (now (other .entry)) (now (rep .entry)) (now (lo .entry)) (now (hi .entry)) (rule .kind) low high → Groups doc (now (group .entry)) → doc .size ≡ n → (isSequenced rule ≡ false → 5 ≤ rule .kind → ⊥) → Soon doc q rule at x) ⌝ }
+    ensures { λ x. ⌜ ((doc : Doc) → (q : Rule) → (at : Places) → Swept doc q rule at (now (order .entry)) (now (closes .entry)) (now (chosen .entry)) (now (row .entry)) (now (other .entry)) (now (rep .entry)) (now (lo .entry)) (now (hi .entry)) (rule .kind) low high → Groups doc (now (group .entry)) → doc .size ≡ n → (isSequenced rule ≡ false → 5 ≤ rule .kind → ⊥) → whole ≡ at .whole → Soon doc q rule at x) ⌝ }
 {
     if rule.windowed == 0 {
         return on_days::on_days(
@@ -83,6 +84,7 @@ fn swept_lent(
         lo,
         hi,
         n,
+        whole,
         own,
         value,
         top,
@@ -105,9 +107,10 @@ fn swept(
     high: usize,
     rule: Rule,
     n: usize,
+    whole: usize,
 ) -> u16
     requires { ⌜ (n ≤ limit) × ((doc : Doc) × (q : Rule) × (at : Places) × Swept doc q rule at (now order) (now closes) (now chosen) (now row) (now other) (now rep) (now lo) (now hi) (rule .kind) low high × Groups doc (now group) × (doc .size ≡ n)) ⌝ }
-    ensures { λ x. ⌜ ((doc : Doc) → (q : Rule) → (at : Places) → Swept doc q rule at (now (order .entry)) (now (closes .entry)) (now (chosen .entry)) (now (row .entry)) (now (other .entry)) (now (rep .entry)) (now (lo .entry)) (now (hi .entry)) (rule .kind) low high → Groups doc (now (group .entry)) → doc .size ≡ n → (isSequenced rule ≡ false → 5 ≤ rule .kind → ⊥) → Soon doc q rule at x) ⌝ }
+    ensures { λ x. ⌜ ((doc : Doc) → (q : Rule) → (at : Places) → Swept doc q rule at (now (order .entry)) (now (closes .entry)) (now (chosen .entry)) (now (row .entry)) (now (other .entry)) (now (rep .entry)) (now (lo .entry)) (now (hi .entry)) (rule .kind) low high → Groups doc (now (group .entry)) → doc .size ≡ n → (isSequenced rule ≡ false → 5 ≤ rule .kind → ⊥) → whole ≡ at .whole → Soon doc q rule at x) ⌝ }
 {
     if n <= SMALL {
         let mut own = [0u16; SMALL];
@@ -128,6 +131,7 @@ fn swept(
             high,
             rule,
             n,
+            whole,
             &mut own,
             &mut value,
             &mut top,
@@ -152,6 +156,7 @@ fn swept(
         high,
         rule,
         n,
+        whole,
         &mut own,
         &mut value,
         &mut top,
@@ -204,6 +209,7 @@ fn sweeping_lent(
             bounds.high,
             rule,
             n,
+            at.whole,
         );
     }
     let last = picking::pick(closes, read, ends);
@@ -221,6 +227,7 @@ fn sweeping_lent(
         bounds.high,
         rule,
         n,
+        at.whole,
     )
 }
 

@@ -77,7 +77,7 @@ module _ (doc : Doc) (q r : Rule) (w : Window) (begins ends reach : List ℕ) (p
   unfolding wrongAfter
   wrong-version f a e = let k = any-true _ 0 (doc .size) e in row-version doc r (k .0) f (and-l (inRow doc r (k .0) f) _ (k .1 .passes))
 
-  told : (f : ℕ) → f < doc .size → stepped begins ends reach from to f ≡ offendsIn doc (meets doc w) q r f
+  told : (f : ℕ) → f < doc .size → stepped begins ends reach from to f ≡ offendsIn doc (meets doc w) w q r f
   unfolding meets
   told f h =
       rw (p .begin .at f, p .end .at f, s .above f from h low, offends-in doc r ok flat w q f kind, f-is, t-is)
@@ -89,5 +89,5 @@ module _ (doc : Doc) (q r : Rule) (w : Window) (begins ends reach : List ℕ) (p
           (λ t. let s = simp says at t in simp says (s .1, ((all (s .1), s .0 .0), s .0 .1)))
           (λ t. let s = simp says at t in simp says ((s .1 .0 .1, s .1 .1), s .0))
 
-  pub found-in : (x : Found) → x ≡ first (stepped begins ends reach from to) 0 (length begins) → x ≡ first (offendsIn doc (meets doc w) q r) 0 (doc .size)
+  pub found-in : (x : Found) → x ≡ first (stepped begins ends reach from to) 0 (length begins) → x ≡ first (offendsIn doc (meets doc w) w q r) 0 (doc .size)
   found-in x e = e ∙ ap (first _ 0) (p .begin .size) ∙ first-same _ _ 0 (doc .size) (λ f _ l. told f (omega arith))

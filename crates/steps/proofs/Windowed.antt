@@ -90,6 +90,6 @@ module _ (doc : Doc) (r : Rule) (ok : Judgeable doc) (flat : isSequenced r ≡ f
         (last-of (inRow doc r v f) (meets doc w f) _ _ (λ here. wrong-in f here (numberOf doc v))))
         ∙ any-and (λ v. inRow doc r v f && wrongUnder doc r f (w .from) (numberOf doc v)) (meets doc w f) (doc .size)
 
-    pub offends-in : (q : Rule) (f : ℕ) → r .kind ≡ 5 → offendsIn doc (meets doc w) q r f ≡ (wrongAfter doc r f (w .from) && meets doc w f)
+    pub offends-in : (q : Rule) (f : ℕ) → r .kind ≡ 5 → offendsIn doc (meets doc w) w q r f ≡ (wrongAfter doc r f (w .from) && meets doc w f)
     unfolding offendsIn byKind breaksIn
-    offends-in q f k = ap (breaksIn doc (meets doc w) q r f) k ∙ datatype-in f
+    offends-in q f k = ap (breaksIn doc (meets doc w) w q r f) k ∙ datatype-in f

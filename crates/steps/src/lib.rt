@@ -140,7 +140,7 @@ pub fn stepped_in<'a>(
 ) -> Found
     requires rooms { ⌜ (length (now begin) ≤ length (now end)) × (length (now begin) ≤ length (now reach)) ⌝ }
     requires way { ⌜ Skips (λ f. ltb 0 (getD (now reach) f 0)) (length (now begin)) start (now next) ⌝ }
-    ensures { λ x. ⌜ ((doc : Doc) (q r : Rule) (w : Window) → Periods doc (now (begin .entry)) (now (end .entry)) → Reaches doc r (now (reach .entry)) → Judgeable doc → isSequenced r ≡ false → r .kind ≡ 5 → w .from ≡ from → w .to ≡ to → from ≤ 36524 → x ≡ first (offendsIn doc (meets doc w) q r) 0 (doc .size)) ⌝ }
+    ensures { λ x. ⌜ ((doc : Doc) (q r : Rule) (w : Window) → Periods doc (now (begin .entry)) (now (end .entry)) → Reaches doc r (now (reach .entry)) → Judgeable doc → isSequenced r ≡ false → r .kind ≡ 5 → w .from ≡ from → w .to ≡ to → from ≤ 36524 → x ≡ first (offendsIn doc (meets doc w) w q r) 0 (doc .size)) ⌝ }
 {
     let mut f = start;
     while f < begin.len() {

@@ -1,19 +1,20 @@
 -- What the lists laid out for a rule give to the walk of its kind, and what that walk's answer is.
 use mathlib.Core.Path.{_≡_, refl}
-use mathlib.Core.Bool.{true, false}
+use mathlib.Core.Bool.{Bool, true, false, cond}
 use mathlib.Core.Logic.{_⊎_, inl, inr, ⊎-elim}
 use mathlib.Core.List.{List}
 use Prim.Native.Nat.{ℕ, _≤_}
 use native.Mathlib.Omega.{arith}
 use borrow.Author.Tests.{eqb-true, eqb-false, eq-eqb}
 use lib.Dec.{eqb, ltb}
+use lib.IntN.{pos}
 use lib.ListN.{length, getD}
 use Rattle.meaning.specs.declared.Found.{Found}
 use Rattle.meaning.specs.declared.Rule.{Rule}
 use Rattle.meaning.specs.Walk.{first}
 use Rattle.meaning.specs.Document.{Doc}
 use Rattle.meaning.specs.Rules.{isSequenced, ruleFields}
-use Rattle.meaning.specs.Window.{Window, meets, offendsIn, offenderIn}
+use Rattle.meaning.specs.Window.{Window, shortened, meets, offendsIn, offenderIn}
 use Rattle.meaning.proofs.Basics.{went}
 use Rattle.meaning.proofs.Tables.{rule-row}
 use Rattle.prepare.specs.declared.Prepared.{Prepared}
@@ -24,14 +25,21 @@ use Rattle.window.specs.declared.layout.Layout.{Layout}
 use Rattle.window.specs.Settled.{Settled}
 
 -- the lowest that offends is the offender of the window
-pub answer : (doc : Doc) (q r : Rule) (w : Window) {x : Found} → x ≡ first (offendsIn doc (meets doc w) q r) 0 (doc .size) → x ≡ offenderIn doc q r w
+pub answer : (doc : Doc) (q r : Rule) (w : Window) {x : Found} → x ≡ first (offendsIn doc (meets doc w) w q r) 0 (doc .size) → x ≡ offenderIn doc q r w
 unfolding offenderIn
 answer doc q r w e = e
 
--- the terms of a cardinality on a day are those in a window, with what it counts
-pub counting : (r : Rule) (mode : ℕ) {low high : ℕ} → Terms r mode low high → r .kind ≡ 4 → Counting r (eqb (r .distinct) 1) low high
+-- the terms of a cardinality on a day are those in a window, with what it counts, but that none is asked for where it is shortened
+pub counting : (r : Rule) (mode low : ℕ) {high : ℕ} → Terms r mode low high → r .kind ≡ 4 → (w : Window) {short : Bool} {least : ℕ} → shortened w ≡ short → least ≡ cond short 0 low
+    → Counting r (shortened w) (eqb (r .distinct) 1) least high
 unfolding Terms TermsBy
-counting r mode t k = let s = rw k at t in record { kind = k; low-is = s .1; high-is = s .2; distinct-is = refl }
+counting r mode low t k w {short} e l =
+    let s = rw k at t in
+    record { kind = k; low-is = rw (e, l) (by-way short); high-is = s .2; distinct-is = refl }
+  where
+    by-way : (b : Bool) → pos (cond b 0 low) ≡ cond b (pos 0) (r .low)
+    by-way true = refl
+    by-way false = let s = rw k at t in s .1
 
 module _ (r : Rule) (f : ruleFields r ≡ true) (no-reference : r .kind ≡ 3 → ⊥) (no-count : r .kind ≡ 4 → ⊥) (no-type : r .kind ≡ 5 → ⊥) where
   -- what is none of the later kinds is a key or a unique rule

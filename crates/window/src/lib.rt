@@ -5,16 +5,26 @@ use meaning::Rule;
 use places::Place;
 use prepare::Prepared;
 ghost use mathlib.Core.Path.{_≡_};
-ghost use mathlib.Core.Bool.{true, false};
+ghost use mathlib.Core.Bool.{true, false, cond};
 ghost use Prim.Native.Nat.{_≤_};
 ghost use Rattle.meaning.specs.declared.Rule.{Rule};
 ghost use Rattle.meaning.specs.Document.{Doc};
 ghost use Rattle.meaning.specs.Rules.{isSequenced, ruleFields};
-ghost use Rattle.meaning.specs.Window.{Window, offenderIn};
+ghost use Rattle.meaning.specs.Window.{Window, shortened, offenderIn};
 ghost use Rattle.prepare.specs.declared.Prepared.{Prepared};
 ghost use Rattle.window.specs.Settled.{Settled};
 
 pub mod layout; // layout.rt: the lists of a rule
+
+// The minimum that is asked at a place: none, that is 0, where the window is shortened. Cost: none.
+fn asked(shortened: bool, low: usize) -> usize
+    ensures { λ x. ⌜ x ≡ cond shortened 0 low ⌝ }
+{
+    if shortened {
+        return 0;
+    }
+    low
+}
 
 // The lowest offender of a cardinality at a place, which is a window. Cost: that of the walk.
 fn counted_at(
@@ -27,7 +37,7 @@ fn counted_at(
     here: Place,
 ) -> Found
     requires { ⌜ (ruleFields r ≡ true) × (isSequenced r ≡ false) × (r .kind ≡ 4) × ((doc : Doc) × (q : Rule) × (held : Prepared) × Settled doc q r laid held (now begin) (now end) (now rep) (now group)) ⌝ }
-    ensures { λ x. ⌜ ((doc : Doc) → (q : Rule) → (held : Prepared) → (w : Window) → Settled doc q r laid held (now (begin .entry)) (now (end .entry)) (now (rep .entry)) (now (group .entry)) → w .from ≡ here .from → w .to ≡ here .to → x ≡ offenderIn doc q r w) ⌝ }
+    ensures { λ x. ⌜ ((doc : Doc) → (q : Rule) → (held : Prepared) → (w : Window) → Settled doc q r laid held (now (begin .entry)) (now (end .entry)) (now (rep .entry)) (now (group .entry)) → w .from ≡ here .from → w .to ≡ here .to → shortened w ≡ here .shortened → x ≡ offenderIn doc q r w) ⌝ }
 {
     let bounds = day::terms::terms(r);
     counting::counting_in(
@@ -40,7 +50,7 @@ fn counted_at(
         &laid.last,
         &laid.lower,
         r.distinct == 1,
-        bounds.low,
+        asked(here.shortened, bounds.low),
         bounds.high,
         here.from,
         here.to,
@@ -60,7 +70,7 @@ pub fn offender_at(
     here: Place,
 ) -> Found
     requires { ⌜ (ruleFields r ≡ true) × (isSequenced r ≡ false) × (here .from ≤ 36524) × ((doc : Doc) × (q : Rule) × Settled doc q r laid held (now begin) (now end) (now rep) (now group)) ⌝ }
-    ensures { λ x. ⌜ ((doc : Doc) → (q : Rule) → (w : Window) → Settled doc q r laid held (now (begin .entry)) (now (end .entry)) (now (rep .entry)) (now (group .entry)) → w .from ≡ here .from → w .to ≡ here .to → x ≡ offenderIn doc q r w) ⌝ }
+    ensures { λ x. ⌜ ((doc : Doc) → (q : Rule) → (w : Window) → Settled doc q r laid held (now (begin .entry)) (now (end .entry)) (now (rep .entry)) (now (group .entry)) → w .from ≡ here .from → w .to ≡ here .to → shortened w ≡ here .shortened → x ≡ offenderIn doc q r w) ⌝ }
 {
     let from = here.from;
     let to = here.to;

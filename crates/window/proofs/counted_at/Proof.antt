@@ -15,21 +15,27 @@ entry c = c .before .before .before .before .before
 terms-requires : tie.Need-terms-requires
 terms-requires c κs = search needs
 
+asked-requires : tie.Need-asked-requires
+asked-requires c κs = search needs
+
 counting-in-requires : tie.Need-counting-in-requires
 counting-in-requires c κs =
-    let p = entry (after-terms c) .pre in
+    let p = entry (after-terms (c .before)) .pre in
     (p .3 .0, _, chains (p .3 .3) (p .1) (p .2))
 
 returns : tie.Need-returns
 returns c =
-    let there = after-terms (c .before) in
+    let a = c .before in
+    let there = after-terms (a .before) in
     let p = entry there .pre in
-    λ doc q held w s from to. answer doc q _ w (c .counting-in .ensures doc q _ w (chains s (p .1) (p .2)) (counting _ _ (there .terms .ensures) (p .2)) from to)
+    λ doc q held w s from to short.
+    answer doc q _ w (c .counting-in .ensures doc q _ w (chains s (p .1) (p .2)) (counting _ _ _ (there .terms .ensures) (p .2) w short (a .asked .ensures)) from to)
 
 pub counted-at-spec : {M : Type 1} → statement M
 counted-at-spec =
     tie.close
     (tie.spec
     terms-requires
+    asked-requires
     counting-in-requires
     returns)

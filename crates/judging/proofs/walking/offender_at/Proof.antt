@@ -2,7 +2,7 @@
 use mathlib.Core.Path.{sym}
 use borrow.Author.Needs.{needs}
 use borrow.Author.Tests.{eq-eqb, ne-eqb}
-use Rattle.judging.proofs.Stops.{found-on-day, found-in-window}
+use Rattle.judging.proofs.Stops.{found-on-day, found-in-window, short-there}
 use Rattle.judging.proofs.walking.offender_at.Statement.{statement}
 use Rattle.judging.proofs.walking.offender_at.Tie as tie
 
@@ -27,7 +27,7 @@ offender-at-requires-2 c κs =
 returns-2 : tie.Need-returns-2
 returns-2 c =
     let t = ne-eqb _ 0 (c .before .if1 .left) in
-    λ doc q at a p n s. found-in-window doc q _ s t (c .offender-at2 .ensures doc q _ (a .in-windows t) (sym (s .from)) (sym (s .to)))
+    λ doc q at a p n s. found-in-window doc q _ s t (c .offender-at2 .ensures doc q _ (a .in-windows t) (sym (s .from)) (sym (s .to)) (short-there n s))
 
 pub offender-at-spec : {M : Type 1} → statement M
 offender-at-spec =

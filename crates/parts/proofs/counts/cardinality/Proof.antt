@@ -1,5 +1,6 @@
 -- `parts::counts::cardinality` meets its contract: the sooner of two places serves for both.
-use Rattle.parts.proofs.Earlier.{few-earlier, many-earlier}
+use native.Mathlib.Omega.{arith}
+use Rattle.parts.proofs.Earlier.{many-earlier}
 use borrow.Author.Needs.{needs}
 use Rattle.parts.proofs.counts.cardinality.Statement.{statement}
 use Rattle.parts.proofs.counts.cardinality.Tie as tie
@@ -8,13 +9,13 @@ use Rattle.parts.proofs.counts.cardinality.Tie as tie
 abbrev second : tie.After-sooner → tie.After-too-many
 second c = c .before .before .before .before .before .before .before
 
--- and from there to the first
-abbrev first : tie.After-too-many → tie.After-too-few
-first c = c .before .before .before .before .before .before .before .before .before .before
+-- from the call for it back to the first, cut to the whole places
+abbrev before-second : tie.After-too-many-arg3 → tie.After-below-whole
+before-second c = c .before .before .before
 
--- from the call for the second part back to the first
-abbrev before-second : tie.After-too-many-arg3 → tie.After-too-few
-before-second c = c .before .before .before .before .before .before .before .before .before
+-- and from there to the first as it was
+abbrev first : tie.After-below-whole → tie.After-too-few
+first c = c .before .before .before .before .before .before .before
 
 -- from there back to the start
 abbrev entry : tie.After-too-few → tie.Start
@@ -23,8 +24,11 @@ entry c = c .before .before .before .before .before .before .before .before .bef
 too-few-requires : tie.Need-too-few-requires
 too-few-requires c κs = search needs
 
+below-whole-requires : tie.Need-below-whole-requires
+below-whole-requires c κs = search needs
+
 too-many-requires : tie.Need-too-many-requires
-too-many-requires c κs = let p = entry (before-second c) .pre in (p .0, p .1, p .3, p .5, p .6, search (needs, p .7), search (needs, p .8), search (needs, p .9))
+too-many-requires c κs = let p = entry (first (before-second c)) .pre in (p .0, p .1, p .3, p .5, p .6, search (needs, p .7), search (needs, p .8), search (needs, p .9))
 
 sooner-requires : tie.Need-sooner-requires
 sooner-requires c κs = search needs
@@ -42,13 +46,15 @@ returns : tie.Need-returns
 returns c =
     let s = c .sooner .ensures in
     let b = second c in
-    (few-earlier _ _ _ _ (s .0) _ _ _ _ (first b .too-few .ensures), many-earlier _ _ _ _ _ (s .1) (b .too-many .ensures))
+    let cut = before-second (b .before) in
+    (record { place = _; promised = first cut .too-few .ensures; no-later = λ p h l. omega (arith, s .0, cut .below-whole .ensures p h l) }, many-earlier _ _ _ _ _ (s .1) (b .too-many .ensures))
 
 pub cardinality-spec : {M : Type 1} → statement M
 cardinality-spec =
     tie.close
     (tie.spec
     too-few-requires
+    below-whole-requires
     too-many-requires
     sooner-requires
     same-length

@@ -85,7 +85,7 @@ same-length-4 c = search needs
 returns : tie.Need-returns
 returns c =
     let a = reference-told c in
-    λ doc q r places s g e w k d. reference-met doc q r places _ _ _ _ _ _ _ _ _ _ _ s w _ _ e (reference-asked (a .before) .if1 .taken) (a .unheld .ensures)
+    λ doc q r places s g e w k d z. reference-met doc q r places _ _ _ _ _ _ _ _ _ _ _ s w _ _ e (reference-asked (a .before) .if1 .taken) (a .unheld .ensures)
 
 class-keys-requires : tie.Need-class-keys-requires
 class-keys-requires c κs =
@@ -116,7 +116,7 @@ returns-2 : tie.Need-returns-2
 returns-2 c =
     let a = unique-told c in
     let g = unique-asked (a .before) in
-    λ doc q r places s y e w k d.
+    λ doc q r places s y e w k d z.
     unique-met doc q r places _ _ _ _ _ _ _ _ _ _ _ s w _ _ e _ _ y (g .class-keys .ensures) (g .before .before .if2 .taken) (a .shared .ensures)
 
 key-requires : tie.Need-key-requires
@@ -143,7 +143,7 @@ returns-3 c =
     let three = key-asked (a .before) in
     let two = three .before in
     let u = a .key .ensures in
-    λ doc q r places s y e w k d.
+    λ doc q r places s y e w k d z.
     key-met doc q r places _ _ _ _ _ _ _ _ _ _ _ s w _ _ e _ _ y (u .1 .1) _ (u .0 .1)
     (left-key _ (s .kind-least) (two .before .if1 .left) (two .if2 .left) (three .if3 .taken) k) (u .0 .2) (u .1 .2)
 
@@ -187,8 +187,8 @@ returns-4 c =
     let four = values-asked (a .before) in
     let g = classed four in
     let u = a .cardinality .ensures in
-    λ doc q r places s y e w k d.
-    values-met doc q r places _ _ _ _ _ _ _ _ _ _ _ s w _ _ e _ _ y (g .class-keys2 .ensures) (g .before .before .if3 .left) _ d (four .if4 .taken) (u .0) (u .1)
+    λ doc q r places s y e w k d z.
+    values-met doc q r places _ _ _ _ _ _ _ _ _ _ _ s w _ _ e _ _ y (g .class-keys2 .ensures) (g .before .before .if3 .left) _ d _ z (four .if4 .taken) (u .0) (u .1)
 
 cardinality-requires-2 : tie.Need-cardinality-requires-2
 cardinality-requires-2 c κs =
@@ -225,8 +225,8 @@ returns-5 c =
     let four = counts-asked (a .before) in
     let g = every four in
     let u = a .cardinality2 .ensures in
-    λ doc q r places s y e w k d.
-    cardinality-met doc q r places _ _ _ _ _ _ _ _ _ _ _ s w _ _ e _ _ y (g .class-keys2 .ensures) (g .before .before .if3 .left) _ d (four .if4 .left) (u .0) (u .1)
+    λ doc q r places s y e w k d z.
+    cardinality-met doc q r places _ _ _ _ _ _ _ _ _ _ _ s w _ _ e _ _ y (g .class-keys2 .ensures) (g .before .before .if3 .left) _ d _ z (four .if4 .left) (u .0) (u .1)
 
 pub in-windows-spec : {M : Type 1} → statement M
 in-windows-spec =

@@ -1,4 +1,5 @@
 -- `soonest::on_days::on_days` meets its contract: by the kind, what its parts promise is that nothing offends sooner.
+use native.Mathlib.Omega.{arith}
 use Rattle.parts.proofs.Using.{given-least}
 use Rattle.soonest.proofs.Finding.{rooms, numbered-small, unique-found, reference-found, datatype-found, cardinality-found, key-found, left-one}
 use borrow.Author.Needs.{needs}
@@ -31,7 +32,11 @@ reference-told c = c .before .before .before .before .before .before
 
 -- from the call of `cardinality` back to where the kind is known
 abbrev cardinality-asked : tie.After-cardinality-arg4 → tie.Then4
-cardinality-asked c = c .before .before .before .before
+cardinality-asked c = c .before .before .before .before .before
+
+-- from its answer back to how many days are whole
+abbrev all-whole : tie.After-cardinality → tie.After-index
+all-whole c = c .before .before .before .before
 
 -- from the end back to its answer
 abbrev cardinality-told : tie.After-slice-known14 → tie.After-cardinality
@@ -118,6 +123,9 @@ returns-3 c =
     let u = a .reference .ensures in
     λ doc q r places s e k. reference-found doc q r places _ _ _ _ _ _ _ _ _ _ _ s k _ _ e (reference-asked (a .before) .if3 .taken) (u .0) (u .1)
 
+index-requires : tie.Need-index-requires
+index-requires c κs = search needs
+
 cardinality-requires : tie.Need-cardinality-requires
 cardinality-requires c κs =
     let t = cardinality-asked c in
@@ -153,7 +161,7 @@ returns-4 c =
     let a = cardinality-told c in
     let t = cardinality-asked (a .before) in
     let u = a .cardinality .ensures in
-    λ doc q r places s e k. cardinality-found doc q r places _ _ _ _ _ _ _ _ _ _ _ s k _ _ e _ (numbers3 (t .before .before) .numbered .ensures) (t .if4 .taken) (u .0) (u .1)
+    λ doc q r places s e k. cardinality-found doc q r places _ _ _ _ _ _ _ _ _ _ _ s k _ _ e _ (numbers3 (t .before .before) .numbered .ensures) (t .if4 .taken) _ (omega (arith, all-whole a .index .ensures)) (u .0) (u .1)
 
 key-requires : tie.Need-key-requires
 key-requires c κs =
@@ -214,6 +222,7 @@ on-days-spec =
     same-length-7
     same-length-8
     returns-3
+    index-requires
     cardinality-requires
     same-length-9
     same-length-10

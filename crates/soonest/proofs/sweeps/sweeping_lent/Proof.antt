@@ -1,4 +1,5 @@
 -- `soonest::sweeps::sweeping_lent` meets its contract: what the rule reads is lined up by the places laid out, and the kinds find the soonest.
+use mathlib.Core.Path.{refl}
 use native.Mathlib.Omega.{arith}
 use Rattle.soonest.proofs.Lining.{size-of, columns-fit, opens-few, closes-few, opens-covered, closes-covered, covers-of, swept-begins, swept-ends}
 use borrow.Author.Needs.{needs}
@@ -175,7 +176,7 @@ returns c =
     let k = a .pick in
     λ doc q vkinds values g u.
     let z = size-of _ _ _ _ _ _ _ _ _ _ _ _ _ _ _ g in
-    c .swept .ensures doc q _ (swept-begins _ _ _ _ _ _ _ _ _ _ _ _ _ _ _ g _ _ (m .read-marks .ensures) _ _ (k .ensures .2) (k .ensures .1) _ (omega (arith, l .lay-low .ensures .0, p .0 .in-three)) (l .lay-low .ensures .1) _ (omega (arith, h .lay-high .ensures .0, p .0 .in-four)) (h .lay-high .ensures .1) _ (s .if1 .taken) _ _ _ (p .3) (t .terms .ensures) (o .asked .ensures)) (g .classes) z u
+    c .swept .ensures doc q _ (swept-begins _ _ _ _ _ _ _ _ _ _ _ _ _ _ _ g _ _ (m .read-marks .ensures) _ _ (k .ensures .2) (k .ensures .1) _ (omega (arith, l .lay-low .ensures .0, p .0 .in-three)) (l .lay-low .ensures .1) _ (omega (arith, h .lay-high .ensures .0, p .0 .in-four)) (h .lay-high .ensures .1) _ (s .if1 .taken) _ _ _ (p .3) (t .terms .ensures) (o .asked .ensures)) (g .classes) z u refl
 
 pick-requires-2 : tie.Need-pick-requires-2
 pick-requires-2 c κs =
@@ -257,7 +258,7 @@ returns-2 c =
     let d = e .pick2 in
     λ doc q vkinds values g u.
     let z = size-of _ _ _ _ _ _ _ _ _ _ _ _ _ _ _ g in
-    c .swept2 .ensures doc q _ (swept-ends _ _ _ _ _ _ _ _ _ _ _ _ _ _ _ g _ _ (m .read-marks .ensures) _ _ (k .ensures .2) (k .ensures .1) _ (omega (arith, l .lay-low .ensures .0, p .0 .in-three)) (l .lay-low .ensures .1) _ (omega (arith, h .lay-high .ensures .0, p .0 .in-four)) (h .lay-high .ensures .1) _ _ (d .ensures .2) (d .ensures .1) _ _ _ (p .3) (t .terms .ensures) (o .asked .ensures)) (g .classes) z u
+    c .swept2 .ensures doc q _ (swept-ends _ _ _ _ _ _ _ _ _ _ _ _ _ _ _ g _ _ (m .read-marks .ensures) _ _ (k .ensures .2) (k .ensures .1) _ (omega (arith, l .lay-low .ensures .0, p .0 .in-three)) (l .lay-low .ensures .1) _ (omega (arith, h .lay-high .ensures .0, p .0 .in-four)) (h .lay-high .ensures .1) _ _ (d .ensures .2) (d .ensures .1) _ _ _ (p .3) (t .terms .ensures) (o .asked .ensures)) (g .classes) z u refl
 
 pub sweeping-lent-spec : {M : Type 1} → statement M
 sweeping-lent-spec =

@@ -43,7 +43,7 @@ same-length-4 c = search needs
 returns : tie.Need-returns
 returns c =
     let a = days-told c in
-    λ doc q at s y e k. a .on-days .ensures doc q _ at s e (eq-eqb _ 0 (days-asked (a .before) .if1 .taken))
+    λ doc q at s y e k z. a .on-days .ensures doc q _ at s e (eq-eqb _ 0 (days-asked (a .before) .if1 .taken))
 
 in-windows-requires : tie.Need-in-windows-requires
 in-windows-requires c κs = let p = entry (windows-asked c .before) .pre in (p .0, (p .1 .0, p .1 .1, _, p .1 .2, p .1 .3, p .1 .4, p .1 .5))
@@ -64,7 +64,7 @@ returns-2 : tie.Need-returns-2
 returns-2 c =
     let a = windows-told c in
     let w = ne-eqb _ 0 (windows-asked (a .before) .if1 .left) in
-    λ doc q at s y e k. a .in-windows .ensures doc q _ at s y e w (k w) refl
+    λ doc q at s y e k z. a .in-windows .ensures doc q _ at s y e w (k w) refl z
 
 pub swept-lent-spec : {M : Type 1} → statement M
 swept-lent-spec =
