@@ -163,15 +163,30 @@ INLINE int next_window(const struct windows *w, int in, int out)
     return reached < past ? reached : past;
 }
 
-/* Window by window. A version that lies wholly between two windows looked at neither enters nor leaves. */
+/* How many item numbers have a count outside the bounds; those without a selected version count 0. */
+static int miscounted(const struct rule *r)
+{
+    int bad = 0;
+    for (int number = 1; number <= bank.count; number++) bad += chosen[number] && outside(r, counted[number]);
+    return bad;
+}
+
+/* Window by window. A version that lies wholly between two windows looked at neither enters nor leaves. A shortened window is not
+   held to the minimum of a cardinality, so that from the first of them on the rule goes without it. */
 INLINE struct verdict walk_windows(const struct rule *r, enum mode mode)
 {
     const struct windows w = windows_of(r);
+    struct rule freed = *r;
     struct tally t = {0, 0, 0, 0};
     int in = 0, out = 0, end = 0;
+    freed.min = 0;
     for (int k = 0; k < w.count; k = next_window(&w, in, out)) {
         const int start = window_start(&w, k), before = end;
         end = window_end(&w, k);
+        if ((mode == COUNT_WINDOW || mode == DISTINCT_WINDOW) && r->min && window_shortened(&w, k)) {
+            r = &freed;
+            t.bad = miscounted(r);
+        }
         for (; leave_day[out] <= start; out++)
             if (bank.begin[leaving[out]] < before) change(r, mode, &t, leaving[out], -1);
         for (; enter_day[in] < end; in++)

@@ -1,4 +1,4 @@
-/* The windows of a rule, by number from 0: where each starts and ends, and which is the first to reach or pass a day. */
+/* The windows of a rule, by number from 0: where each starts and ends, whether it is cut short, and which is the first to reach or pass a day. */
 #ifndef WINDOWS_H
 #define WINDOWS_H
 #include "fast.h"
@@ -33,6 +33,14 @@ static inline int window_end(const struct windows *w, int k)
         end = month_start[month < MONTHS ? month : MONTHS];
     }
     return end < w->end ? end : w->end;
+}
+
+/* Whether the period or the month table ends before the window's length is over; then so it does for every later window. */
+static inline int window_shortened(const struct windows *w, int k)
+{
+    const int at = k * w->slide + w->width;
+    if (w->unit == 1) return w->begin + at > w->end;
+    return w->unit == 2 && (w->month + at > MONTHS || month_start[w->month + at] > w->end);
 }
 
 /* The first window that ends after a day of the period; at least the count if there is none. */

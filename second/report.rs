@@ -32,9 +32,9 @@ fn on_days(bank: &Bank, rules: &[Rule], rule: &Rule) -> Verdict {
 fn in_windows(bank: &Bank, rules: &[Rule], rule: &Rule, months: &[usize]) -> Verdict {
     let (rows, referred) = rows_read(bank, rules, rule);
     let all = windows(rule, months);
-    for (i, (from, to)) in all.iter().enumerate() {
-        if let Some(v) = offender_in(bank, rule, &rows, &referred, *from, *to) {
-            return Verdict::Fails(*from, v, i + 1);
+    for (i, window) in all.iter().enumerate() {
+        if let Some(v) = offender_in(bank, rule, &rows, &referred, window) {
+            return Verdict::Fails(window.from, v, i + 1);
         }
     }
     Verdict::Holds(all.len())

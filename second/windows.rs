@@ -1,25 +1,38 @@
 //! The windows of a non-sequenced rule, and its meaning in one window: which record is its lowest offender there.
+use crate::months::LAST;
 use crate::nodes::{Bank, Value};
 use crate::rules::Rule;
 use crate::slices::Row;
 
-/// First day and day after the last of each window, in their order.
-pub fn windows(rule: &Rule, months: &[usize]) -> Vec<(usize, usize)> {
-    let month = |k: usize| months[k.min(1200)];
+/// First day and day after the last of a window, and whether it would end later by its length alone.
+pub struct Window {
+    pub from: usize,
+    pub to: usize,
+    pub shortened: bool,
+}
+
+/// A window that starts on a day and has its natural end on another, cut where the period or the month table ends.
+fn cut(rule: &Rule, months: &[usize], from: usize, natural: usize) -> Window {
+    let to = natural.min(rule.end).min(months[LAST]);
+    Window { from, to, shortened: to < natural }
+}
+
+/// The windows in their order.
+pub fn windows(rule: &Rule, months: &[usize]) -> Vec<Window> {
     let mut all = Vec::new();
     match rule.unit {
-        0 => all.push((rule.begin, rule.end)),
+        0 => all.push(cut(rule, months, rule.begin, rule.end)),
         1 => {
             let mut start = rule.begin;
             while start < rule.end {
-                all.push((start, (start + rule.length).min(rule.end)));
+                all.push(cut(rule, months, start, start + rule.length));
                 start += rule.slide;
             }
         }
         _ => {
             let mut k = months.iter().position(|d| *d == rule.begin).unwrap();
-            while month(k) < rule.end {
-                all.push((month(k), month(k + rule.length).min(rule.end)));
+            while months[k] < rule.end {
+                all.push(cut(rule, months, months[k], months[k + rule.length]));
                 k += rule.slide;
             }
         }
@@ -35,8 +48,8 @@ struct Met {
     values: Vec<Value>,
 }
 
-fn met(bank: &Bank, rows: &[Row], from: usize, to: usize) -> Vec<Met> {
-    let meets = |v: usize| (bank.nodes[v].begin as usize) < to && from < bank.nodes[v].end as usize;
+fn met(bank: &Bank, rows: &[Row], window: &Window) -> Vec<Met> {
+    let meets = |v: usize| (bank.nodes[v].begin as usize) < window.to && window.from < bank.nodes[v].end as usize;
     let mut all = Vec::new();
     for row in rows.iter().filter(|row| meets(row.version)) {
         let fields: Vec<usize> = row.fields.iter().copied().filter(|f| meets(*f)).collect();
@@ -58,8 +71,9 @@ fn reference_offends(referred: &[Met], row: &Met) -> bool {
     row.values.iter().any(|x| !referred.iter().any(|other| other.values.contains(x)))
 }
 
-/// Cardinality: the values (or the distinct ones) under the row's item number are too few or too many.
-fn cardinality_offends(rule: &Rule, rows: &[Met], row: &Met) -> bool {
+/// Cardinality: the values (or the distinct ones) under the row's item number are too few or too many; in a shortened window
+/// never too few, since days on which more could have come are cut off.
+fn cardinality_offends(rule: &Rule, rows: &[Met], row: &Met, shortened: bool) -> bool {
     let mut values: Vec<Value> = Vec::new();
     for other in rows.iter().filter(|other| other.item == row.item) {
         for x in &other.values {
@@ -69,7 +83,7 @@ fn cardinality_offends(rule: &Rule, rows: &[Met], row: &Met) -> bool {
         }
     }
     let count = values.len() as i64;
-    count < rule.min || rule.max < count
+    (count < rule.min && !shortened) || rule.max < count
 }
 
 /// p and q have numbers, p ends by q's begin, nothing of the group lies between, and the step leaves the bounds.
@@ -94,17 +108,17 @@ fn wrong_fields(bank: &Bank, rule: &Rule, rows: &[Met], row: &Met) -> Vec<usize>
     row.fields.iter().copied().filter(valued).filter(wrong).collect()
 }
 
-/// The lowest offender in the window [from, to); the rows of the rule and of the rule it refers to are given.
-pub fn offender_in(bank: &Bank, rule: &Rule, rows: &[Row], referred: &[Row], from: usize, to: usize) -> Option<usize> {
-    let rows = met(bank, rows, from, to);
-    let referred = met(bank, referred, from, to);
+/// The lowest offender in the window; the rows of the rule and of the rule it refers to are given.
+pub fn offender_in(bank: &Bank, rule: &Rule, rows: &[Row], referred: &[Row], window: &Window) -> Option<usize> {
+    let rows = met(bank, rows, window);
+    let referred = met(bank, referred, window);
     if rule.kind == 5 {
         return rows.iter().flat_map(|row| wrong_fields(bank, rule, &rows, row)).min();
     }
     let offends = |k: &usize| match rule.kind {
         1 | 2 => key_offends(rule, &rows, *k),
         3 => reference_offends(&referred, &rows[*k]),
-        _ => cardinality_offends(rule, &rows, &rows[*k]),
+        _ => cardinality_offends(rule, &rows, &rows[*k], window.shortened),
     };
     (0..rows.len()).find(offends).map(|k| rows[k].version)
 }

@@ -1,4 +1,5 @@
-//! Sound rules over a bank: paths and fields that fit it, bounds near its values, periods about its days, windows of all sizes.
+//! Sound rules over a bank: paths and fields that fit it, bounds near its values, periods about its days, windows of all sizes,
+//! and cardinalities in windows that the period's end cuts.
 use crate::bank::Plan;
 use crate::random::Random;
 use crate::records::{Node, Rule};
@@ -58,6 +59,9 @@ pub fn rules(random: &mut Random, nodes: &[Node], plan: &Plan, count: usize, cos
         rule.end = end as u16;
         if rule.mode == 1 {
             open_windows(random, &mut rule, &months, cost);
+        }
+        if rule.kind == 4 && rule.unit > 0 && random.chance(60) {
+            cut_window(random, nodes, plan, &mut rule, &months);
         }
         all.push(rule);
     }
@@ -205,6 +209,70 @@ fn open_windows(random: &mut Random, rule: &mut Rule, months: &[usize], cost: &C
         let sizes = [1, 1, 1, 2, 3, 6, 12, 13, 120, 1199, 1200];
         rule.length = random.pick(&sizes);
         rule.slide = random.pick(&sizes).max((1200 / most) as u16);
+    }
+}
+
+/// Begin and end of a field version, of one that ends before the version above it where there is one; else the rule's period.
+fn field_days(random: &mut Random, nodes: &[Node], rule: &Rule) -> (usize, usize) {
+    let item = |f: usize| &nodes[nodes[f].parent as usize];
+    let is_field = |f: &usize| nodes[*f].kind == 2 && nodes[*f].parent > 0 && item(*f).name == rule.field;
+    let all: Vec<usize> = (0..nodes.len()).filter(is_field).collect();
+    let early: Vec<usize> = all.iter().copied().filter(|f| nodes[*f].end < nodes[item(*f).parent as usize].end).collect();
+    if all.is_empty() {
+        return (rule.begin as usize, rule.end as usize);
+    }
+    let f = random.pick(if early.is_empty() { &all } else { &early });
+    (nodes[f].begin as usize, nodes[f].end as usize)
+}
+
+/// A window that a period's end is to cut: its first day and the day on which it would end; the length of windows, in the rule's unit;
+/// and the period's begin, as many whole windows before.
+struct Cut {
+    first: usize,
+    natural: usize,
+    length: usize,
+    begin: usize,
+}
+
+/// The cut window begins as a field version has ended that reached through the one before.
+fn cut_by_days(random: &mut Random, days: (usize, usize), whole: usize) -> Cut {
+    let length = random.between(1, days.1 - days.0).max(2);
+    let first = if days.1 < 36525 { days.1.max(length) } else { 36525 - random.between(1, length - 1) };
+    Cut { first, natural: first + length, length, begin: first - length * whole.min(first / length) }
+}
+
+/// As by days, with the next month; or so late that the month table ends before the window does.
+fn cut_by_months(random: &mut Random, day: usize, whole: usize, late: bool, months: &[usize]) -> Cut {
+    let length = if late { random.pick(&[2, 2, 3, 6, 13]) } else { random.pick(&[1, 1, 1, 2, 3]) };
+    let after = months.iter().position(|d| *d >= day).unwrap();
+    let month = if late { 1200 - random.between(1, length - 1) } else { after.min(1199) };
+    let natural = if month + length > 1200 { 36526 } else { months[month + length] };
+    Cut { first: months[month], natural, length, begin: months[month - length * whole.min(month / length)] }
+}
+
+/// A cardinality that mostly wants something in each window, over a period that ends within one: after a day, nine days or some, or a day
+/// too soon; at times exactly as it begins, with the one before.
+fn cut_window(random: &mut Random, nodes: &[Node], plan: &Plan, rule: &mut Rule, months: &[usize]) {
+    let days = field_days(random, nodes, rule);
+    let whole = random.pick(&[1, 1, 1, 2, 3]);
+    let late = rule.unit == 2 && plan.last == 36525 && random.chance(60);
+    let cut = if rule.unit == 1 { cut_by_days(random, days, whole) } else { cut_by_months(random, days.1, whole, late, months) };
+    let most = (cut.natural - 1).min(36525);
+    let end = match random.share(&[2, 1, 2, 2, 4]) {
+        _ if late && random.chance(60) => 36525,
+        0 if cut.begin < cut.first => cut.first,
+        1 => cut.first + 1,
+        2 => most,
+        3 => most.min(cut.first + 9),
+        _ => random.between(cut.first + 1, most),
+    };
+    rule.begin = cut.begin as u16;
+    rule.end = end as u16;
+    rule.length = cut.length as u16;
+    rule.slide = random.pick(&[cut.length, cut.length, cut.length, (cut.length + 1) / 2, (cut.length * 2).min(36525)]) as u16;
+    if random.chance(70) {
+        rule.min = rule.min.max(1);
+        rule.max = rule.min + random.pick(&[0, 1, 2, 5, 1000, 1000]);
     }
 }
 
