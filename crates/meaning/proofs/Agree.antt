@@ -5,7 +5,6 @@ use mathlib.Core.Bool.{Bool, true, false, _&&_, _||_, not}
 use Prim.Native.Nat.{ℕ, zero, suc}
 use lib.Dec.{eqb, leb}
 use lib.IntN.{pos, _-ℤ_}
-use lib.Signed.{leZ}
 use borrow.Author.Tests.{eq-eqb}
 use Rattle.meaning.specs.declared.Rule.{Rule}
 use Rattle.meaning.specs.Walk.{any, count}
@@ -13,7 +12,7 @@ use Rattle.meaning.specs.Document.{Doc, numberOf}
 use Rattle.meaning.specs.Rules.{byKind, isReference}
 use Rattle.meaning.specs.Select.{selected, fieldOf, readsOwn, valued, sameValue, within, isNumber, present, gives, has}
 use Rattle.meaning.specs.Day.{values, sharesOnly, taken, key, unique, reference, cardinality, datatype, breaks, offends}
-use Rattle.meaning.specs.Window.{Window, shortened, valueless, shares, sharedIn, keyIn, referenceIn, under, counts, cardinalityIn, follows, jumps, datatypeIn, breaksIn, offendsIn}
+use Rattle.meaning.specs.Window.{Window, valueless, shares, sharedIn, keyIn, referenceIn, under, counts, cardinalityIn, follows, jumps, datatypeIn, breaksIn, offendsIn}
 use Rattle.meaning.proofs.Basics.{went, and-same}
 use Rattle.meaning.proofs.Selects.{selected-read, field-read}
 
@@ -122,11 +121,7 @@ module _ (doc : Doc) (p p′ : ℕ → Bool) where
     breaks-in-same w (suc (suc (suc zero))) e v =
         behind r a v _ _
         (λ s. ap₂ (λ (g h : ℕ → Bool). any (λ f. g f && not (h f)) 0 (doc .size)) (gives-same r a v s) (fun-ext (held-same r a q (b (eq-eqb (r .kind) 3 e)) v s)))
-    breaks-in-same w (suc (suc (suc (suc zero)))) e v =
-        behind r a v _ _
-        (λ s.
-        ap (λ (h : ℕ → ℕ → Bool). let n = pos (count (h (numberOf doc v)) 0 (doc .size)) in not ((shortened w || leZ (r .low) n) && leZ n (r .high)))
-        (counts-same r a))
+    breaks-in-same w (suc (suc (suc (suc zero)))) e v = behind r a v _ _ (λ s. rw (counts-same r a))
     breaks-in-same w (suc (suc (suc (suc (suc k))))) e v =
         ap (λ (h : ℕ → Bool). any h 0 (doc .size))
         (fun-ext (λ u.

@@ -76,19 +76,20 @@ abbrev pub Untouched : Rule → Type 0
 Untouched r = (r .windowed ≡ 0) ⊎ ((r .kind ≡ 4 → ⊥) ⊎ Unshortened r)
 
 module _ (doc : Doc) (p : ℕ → Bool) (w : Window) (q r : Rule) where
+  -- how many are counted under the item number of v
+  abbrev counted : ℕ → ℤ
+  counted v = pos (count (counts doc p r (numberOf doc v)) 0 (doc .size))
+
   -- where the window is not shortened a cardinality offends as it did
   cardinality-same : shortened w ≡ false → (v : ℕ) → cardinalityIn doc p w r v ≡ cardinalityBefore doc p r v
   unfolding cardinalityIn cardinalityBefore within
-  cardinality-same s v = rw s
+  cardinality-same s v = ap (λ short. not ((short || leZ (r .low) (counted v)) && leZ (counted v) (r .high))) s
 
   -- and what offends now offended before
   cardinality-less : (v : ℕ) → cardinalityBefore doc p r v ≡ false → cardinalityIn doc p w r v ≡ false
   unfolding cardinalityIn cardinalityBefore within
-  cardinality-less v e = go (shortened w) (leZ (r .low) n) (leZ n (r .high)) e
+  cardinality-less v e = go (shortened w) (leZ (r .low) (counted v)) (leZ (counted v) (r .high)) e
     where
-      n : ℤ
-      n = pos (count (counts doc p r (numberOf doc v)) 0 (doc .size))
-
       go : (s a b : Bool) → not (a && b) ≡ false → not ((s || a) && b) ≡ false
       go false a b h = h
       go true true b h = h

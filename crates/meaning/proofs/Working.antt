@@ -9,6 +9,7 @@ use Rattle.meaning.proofs.Pinning.{Pin, wanted, Right, readAnswer, Pose
 use Rattle.meaning.proofs.Examples.{bank-examples, edge-examples, slip-examples, bank-listed, rules-listed, told-examples}
 use Rattle.meaning.proofs.PinnedWrites.{record-bytes, bank-image, one-block, two-blocks, two-tables, columns-held, lent-examples, answer-examples, image-examples, told-outputs}
 use Rattle.meaning.proofs.Theorems.{nodes-refused, rules-refused, verdict-refused, slice-refused, changes-refused, nothing-changes, enough-days, holds-on-days, fails-on-days, holds-in-windows, fails-in-windows, which-windows}
+use Rattle.meaning.proofs.Sparing.{shortened-where, verdict-same, verdict-holds}
 
 -- To work the examples out takes most of a check's time, so a definition that already breaks one of these is refused before it.
 laws-first : Unit {0}
@@ -25,6 +26,9 @@ laws-first =
     let law = holds-in-windows in
     let law = fails-in-windows in
     let law = which-windows in
+    let law = shortened-where in
+    let law = verdict-same in
+    let law = verdict-holds in
     let law = bank-examples in
     let law = edge-examples in
     let law = slip-examples in
