@@ -1,9 +1,13 @@
 -- An earlier place serves as well: each promise of a part holds of every place before the one it was made of.
+use mathlib.Core.Path.{_≡_}
+use mathlib.Core.Bool.{cond}
 use mathlib.Core.List.{List}
 use Prim.Native.Nat.{ℕ, _≤_}
 use native.Mathlib.Omega.{arith}
+use lib.Dec.{ltb}
+use borrow.Author.Tests.{lt-ltb}
 use Rattle.crowds.specs.Crowds.{ByMany}
-use Rattle.parts.specs.Parts.{ByTwice, ByShared, ByFew}
+use Rattle.parts.specs.Parts.{ByTwice, ByShared, ByFew, BelowWhole}
 use Rattle.parts.specs.Matched.{ByUnmatched}
 
 module _ (order lo hi : List ℕ) (n : ℕ) {D E : ℕ} (h : E ≤ D) where
@@ -22,6 +26,15 @@ module _ (order lo hi : List ℕ) (n : ℕ) {D E : ℕ} (h : E ≤ D) where
   pub few-earlier : (marks classes keys : List ℕ) (low : ℕ) → ByFew order marks classes keys lo hi n low D → ByFew order marks classes keys lo hi n low E
   unfolding ByFew
   few-earlier marks classes keys low b x p ox mark hx few = omega (arith, b x p ox mark hx few)
+
+-- what a part promises of a place, cut to those below `whole`, and an earlier place, promises it of these
+pub cut-earlier : (P : ℕ → Type 0) (whole place cut E : ℕ) → P place → cut ≡ cond (ltb place whole) place 65535 → E ≤ cut → BelowWhole P whole E
+cut-earlier P whole place cut E h e l =
+    record {
+      place = place;
+      promised = h;
+      no-later = λ p below late. let kept : cut ≡ place = rw (lt-ltb place whole (omega arith)) at e in omega arith;
+    }
 
 pub many-earlier : (keys lo hi : List ℕ) (n high : ℕ) {D E : ℕ} → E ≤ D → ByMany keys lo hi n high D → ByMany keys lo hi n high E
 unfolding ByMany

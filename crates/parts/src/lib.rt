@@ -2,7 +2,10 @@
 // too few and too many of one key. They are found by sweeps over columns of numbers, with no document and no rule, and in columns that are lent.
 use numbers::index;
 use passes::NEVER;
-ghost use Prim.Native.Nat.{ℕ, _≤_, _<_};
+ghost use mathlib.Core.Path.{_≡_};
+ghost use mathlib.Core.Bool.{cond};
+ghost use Prim.Native.Nat.{_≤_};
+ghost use lib.Dec.{ltb};
 
 pub mod keys; // keys.rt: columns of keys for the sweeps
 pub mod holders; // holders.rt: two in one row, one value of two owners, a value that nobody has
@@ -10,9 +13,9 @@ pub mod alone; // alone.rt: a value that is no row's only one
 pub mod counts; // counts.rt: too few and too many of one key
 pub mod by_value; // by_value.rt: too few and too many values of one key
 
-// A place, if it is below `whole`; else none. Nothing is asked from there on.
+// A place, if it is below `whole`; else none.
 pub fn below_whole(place: u16, whole: usize) -> u16
-    ensures { λ r. ⌜ ((p : ℕ) → p < whole → place ≤ p → r ≤ p) ⌝ }
+    ensures { λ r. ⌜ r ≡ cond (ltb place whole) place 65535 ⌝ }
 {
     if index(place) < whole {
         return place;

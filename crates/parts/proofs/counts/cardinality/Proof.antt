@@ -1,6 +1,5 @@
 -- `parts::counts::cardinality` meets its contract: the sooner of two places serves for both.
-use native.Mathlib.Omega.{arith}
-use Rattle.parts.proofs.Earlier.{many-earlier}
+use Rattle.parts.proofs.Earlier.{cut-earlier, many-earlier}
 use borrow.Author.Needs.{needs}
 use Rattle.parts.proofs.counts.cardinality.Statement.{statement}
 use Rattle.parts.proofs.counts.cardinality.Tie as tie
@@ -47,7 +46,7 @@ returns c =
     let s = c .sooner .ensures in
     let b = second c in
     let cut = before-second (b .before) in
-    (record { place = _; promised = first cut .too-few .ensures; no-later = λ p h l. omega (arith, s .0, cut .below-whole .ensures p h l) }, many-earlier _ _ _ _ _ (s .1) (b .too-many .ensures))
+    (cut-earlier _ _ _ _ _ (first cut .too-few .ensures) (cut .below-whole .ensures) (s .0), many-earlier _ _ _ _ _ (s .1) (b .too-many .ensures))
 
 pub cardinality-spec : {M : Type 1} → statement M
 cardinality-spec =
