@@ -171,29 +171,44 @@ static int miscounted(const struct rule *r)
     return bad;
 }
 
-/* Window by window. A version that lies wholly between two windows looked at neither enters nor leaves. A shortened window is not
-   held to the minimum of a cardinality, so that from the first of them on the rule goes without it. */
+/* How far a walk over windows has come: the window that is next, the end of the one before it, and what has entered and left. */
+struct walk { struct tally t; int k, in, out, end; };
+
+/* Window by window, up to the first shortened one if only whole ones are wanted; 1 where one fails. A version that lies wholly between two
+   windows looked at neither enters nor leaves. */
+INLINE int walk_on(const struct rule *r, enum mode mode, const struct windows *w, int whole_only, struct walk *s, struct verdict *found)
+{
+    for (; s->k < w->count && !(whole_only && window_shortened(w, s->k)); s->k = next_window(w, s->in, s->out)) {
+        const int start = window_start(w, s->k), before = s->end;
+        s->end = window_end(w, s->k);
+        for (; leave_day[s->out] <= start; s->out++)
+            if (bank.begin[leaving[s->out]] < before) change(r, mode, &s->t, leaving[s->out], -1);
+        for (; enter_day[s->in] < s->end; s->in++)
+            if (bank.end[entering[s->in]] > start) change(r, mode, &s->t, entering[s->in], 1);
+        if (fine(r, &s->t)) continue;
+        *found = (struct verdict){1, start, lowest_offender(r, start, s->end), s->k + 1};
+        return 1;
+    }
+    return 0;
+}
+
+/* All windows. A shortened one is not held to the minimum of a cardinality, so that from the first of them on the rule goes without it; where
+   the last window is whole, all are. */
 INLINE struct verdict walk_windows(const struct rule *r, enum mode mode)
 {
     const struct windows w = windows_of(r);
-    struct rule freed = *r;
-    struct tally t = {0, 0, 0, 0};
-    int in = 0, out = 0, end = 0;
-    freed.min = 0;
-    for (int k = 0; k < w.count; k = next_window(&w, in, out)) {
-        const int start = window_start(&w, k), before = end;
-        end = window_end(&w, k);
-        if ((mode == COUNT_WINDOW || mode == DISTINCT_WINDOW) && r->min && window_shortened(&w, k)) {
-            r = &freed;
-            t.bad = miscounted(r);
-        }
-        for (; leave_day[out] <= start; out++)
-            if (bank.begin[leaving[out]] < before) change(r, mode, &t, leaving[out], -1);
-        for (; enter_day[in] < end; in++)
-            if (bank.end[entering[in]] > start) change(r, mode, &t, entering[in], 1);
-        if (!fine(r, &t)) return (struct verdict){1, start, lowest_offender(r, start, end), k + 1};
+    struct verdict found = {0, 0, 0, w.count};
+    struct walk s = {{0, 0, 0, 0}, 0, 0, 0, 0};
+    if ((mode == COUNT_WINDOW || mode == DISTINCT_WINDOW) && r->min && window_shortened(&w, w.count - 1)) {
+        struct rule freed = *r;
+        if (walk_on(r, mode, &w, 1, &s, &found)) return found;
+        freed.min = 0;
+        s.t.bad = miscounted(&freed);
+        walk_on(&freed, mode, &w, 0, &s, &found);
+    } else {
+        walk_on(r, mode, &w, 0, &s, &found);
     }
-    return (struct verdict){0, 0, 0, w.count};
+    return found;
 }
 
 static struct verdict judge_days(const struct rule *r)
