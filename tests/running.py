@@ -7,10 +7,12 @@ import shutil
 import struct
 import subprocess
 import tempfile
+from typing import NamedTuple
 
 ROOT = os.path.dirname(os.path.dirname(os.path.abspath(__file__)))
 IMAGES = ("nodes.blk", "rules.blk")
 MOST = (20481, 5121)  # bytes of an image in a pair: one more than the largest good one
+HEADER = struct.Struct("<IIHHHHHH")  # of a pair: lengths of the images, days, rule numbers, room of the lists, 0
 
 
 def tree_hash():
@@ -77,18 +79,39 @@ def printed(run, folder, extra={}):
 def packed(images, days, rules, room):
     """A pair as a file of many pairs has it (README.md), of images cut to the most that a pair can have: a longer one is refused as well."""
     nodes, table = (image[:most] for image, most in zip(images, MOST))
-    return struct.pack("<IIHHHHHH", len(nodes), len(table), *days, *rules, room, 0) + nodes + table
+    return HEADER.pack(len(nodes), len(table), *days, *rules, room, 0) + nodes + table
+
+
+class Pair(NamedTuple):
+    """A pair of a file of many pairs: the node image and the rule image, and what its header asks about them."""
+
+    nodes: bytes
+    table: bytes
+    days: tuple
+    rules: tuple
+    room: int
 
 
 def pairs_of(data):
-    """The node image and the rule image of each pair of a file."""
+    """The pairs of a file."""
     at, pairs = 0, []
-    while at + 20 <= len(data):
-        nodes = at + 20 + int.from_bytes(data[at : at + 4], "little")
-        rules = nodes + int.from_bytes(data[at + 4 : at + 8], "little")
-        pairs.append((data[at + 20 : nodes], data[nodes:rules]))
-        at = rules
+    while at + HEADER.size <= len(data):
+        nodes, table, *asked, room, _ = HEADER.unpack_from(data, at)
+        at += HEADER.size
+        pairs.append(Pair(data[at : at + nodes], data[at + nodes : at + nodes + table], tuple(asked[:2]), tuple(asked[2:]), room))
+        at += nodes + table
     return pairs
+
+
+def rule_record(table, rule):
+    """The bytes of a rule in an accepted rule image."""
+    at = rule // 10 * 512 + 8 + rule % 10 * 50
+    return table[at : at + 50]
+
+
+def sequenced(table, rule):
+    """Whether a rule of an accepted rule image is asked of days."""
+    return rule_record(table, rule)[1] == 0
 
 
 def by_word(word, text):
@@ -100,6 +123,25 @@ def nodes_refused(report):
     """The words in which a report refuses the node image; None if they are of the rules, or it refuses nothing."""
     words = report[0].split(" ")
     return report[0] if words[0] == "refused" and int(words[1]) < 20 else None
+
+
+def verdict_line(report, rule):
+    """The line of the verdict on a rule, by the lines of a report: as it refuses the images, else by the rule's own line, 11 where there is no such rule."""
+    if report[0].startswith("refused"):
+        return f"verdict {rule} {report[0]}"
+    return f"verdict {report[rule + 1]}" if rule + 1 < len(report) else f"verdict {rule} refused 11 0"
+
+
+def plain_line(report, table, rule):
+    """The same by the plain engine, which judges sequenced rules alone: 11 also where a rule is not sequenced."""
+    line = verdict_line(report, rule)
+    return line if "refused" in line or sequenced(table, rule) else f"verdict {rule} refused 11 0"
+
+
+def by_engine(text):
+    """What `pairs` prints for each pair of pairs.blk, and what, by the plain engine, for each of plain.blk."""
+    quick, *plain = ("\n" + text).split("\nplain ")
+    return by_word("pair", quick), plain
 
 
 def again(report):

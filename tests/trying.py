@@ -8,6 +8,7 @@ from running import ROOT
 
 BANKCHECK = os.path.join(ROOT, "bankcheck")
 BANKWRITE = os.path.join(ROOT, "bankwrite")
+PLAINCHECK = os.path.join(ROOT, "plaincheck")
 RECORDS = os.path.join(ROOT, "crates", "bankwrite", "data", "records.txt")  # of the example bank
 WRITE = os.path.join(ROOT, "examples", "write")
 CASES = os.path.join(ROOT, "tests", "cases")

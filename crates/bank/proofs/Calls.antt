@@ -7,7 +7,7 @@ use Prim.Native.Nat.{ℕ, zero, suc, _+_, _≤_, _<_}
 use native.Mathlib.Omega.{arith}
 use lib.Dec.{leb}
 use lib.ListN.{length, drop}
-use borrow.Author.Tests.{leb-true, le-leb, lt-leb, lt-ltb, le-ltb, ne-eqb}
+use borrow.Author.Tests.{leb-true, le-leb, lt-leb, le-ltb}
 use Rattle.meaning.specs.declared.Found.{Found}
 use Rattle.meaning.specs.declared.Found.the-variants.{At, Nothing}
 use Rattle.meaning.specs.declared.Rule.{Rule}
@@ -23,7 +23,7 @@ use Rattle.meaning.specs.Nodes.{docOf, readNodes}
 use Rattle.meaning.specs.Rules.{isSequenced, ruleAt, rulesOf, readRules}
 use Rattle.meaning.specs.Day.{alive, slice, onDays}
 use Rattle.meaning.specs.Window.{Window, meets, offendsIn, offenderIn, windows, judge, inWindows}
-use Rattle.meaning.specs.Answer.{referredBy, judged, verdictAfter, readVerdict, verdict, storing, lentAfter, readSlice, readChanges}
+use Rattle.meaning.specs.Answer.{referredBy, judged, verdictAfter, readVerdict, verdict, storing, lentAfter, readSlice, readChanges, sequencedVerdict}
 use Rattle.meaning.proofs.Basics.{went, clear}
 use Rattle.meaning.proofs.Orders.{contrary, came}
 use Rattle.meaning.proofs.Says.{says}
@@ -73,6 +73,13 @@ answered-not-refused (inr w) e = let p = w .3 in let z : _≡_ {A = ℕ} 0 1 = c
 after-refused : (x : Reading) {y : Verdict} → Answered y → (a b : ℕ) → (verdictAfter x y ≡ Unjudged a b) ↔ (x ≡ Refused a b)
 after-refused Accepted w a b = (λ e. absurd (answered-not-refused w e), λ e. absurd (contrary refl e))
 after-refused (Refused k i) w a b = (λ e. let p : k ≡ a = cc in let q : i ≡ b = cc in ap₂ Refused p q, λ e. let p : k ≡ a = cc in let q : i ≡ b = cc in ap₂ Unjudged p q)
+
+-- so it is not refused exactly where the reading accepts
+as-accepted : (read : Reading) {x : Verdict} → ((a b : ℕ) → (x ≡ Unjudged a b) ↔ (read ≡ Refused a b)) → ((a b : ℕ) → x ≡ Unjudged a b → ⊥) ↔ (read ≡ Accepted)
+as-accepted read w = (
+  λ n. ⊎-elim (λ a. a) (λ r. absurd (n (r .0) (r .1) (w (r .0) (r .1) .1 (r .2)))) (came read),
+  λ h a b r. contrary h (w a b .0 r),
+)
 
 -- What a list is stored as.
 module _ (list lent : List ℕ) where
@@ -154,10 +161,18 @@ module _ (nodes rules : List ℕ) (k : ℕ) where
 
     -- it is not refused exactly where the reading accepts
     pub verdict-given : ((a b : ℕ) → x ≡ Unjudged a b → ⊥) ↔ (readVerdict nodes rules k ≡ Accepted)
-    verdict-given = (
-      λ w. ⊎-elim (λ a. a) (λ r. absurd (w (r .0) (r .1) (verdict-as-read (r .0) (r .1) .1 (r .2)))) (came (readVerdict nodes rules k)),
-      λ h a b r. contrary h (verdict-as-read a b .0 r),
-    )
+    verdict-given = as-accepted (readVerdict nodes rules k) verdict-as-read
+
+  -- the same on sequenced rules alone
+  module _ {x : Verdict} (e : x ≡ sequencedVerdict nodes rules k) where
+    pub sequenced-as-read : (a b : ℕ) → (x ≡ Unjudged a b) ↔ (readChanges nodes rules k ≡ Refused a b)
+    unfolding sequencedVerdict
+    sequenced-as-read a b =
+        let w = after-refused (readChanges nodes rules k) (days-answer (docOf nodes) (referredBy (rulesOf rules) k) (ruleAt (rulesOf rules) k)) a b in
+        (λ h. w .0 (sym e ∙ h), λ h. e ∙ w .1 h)
+
+    pub sequenced-given : ((a b : ℕ) → x ≡ Unjudged a b → ⊥) ↔ (readChanges nodes rules k ≡ Accepted)
+    sequenced-given = as-accepted (readChanges nodes rules k) sequenced-as-read
 
 -- The slice of a node image.
 module _ (nodes : List ℕ) (d : ℕ) where
@@ -172,28 +187,6 @@ module _ (nodes : List ℕ) (d : ℕ) where
   pub slice-read-late : readNodes nodes ≡ Accepted → 36524 < d → readSlice nodes d ≡ Refused 11 0
   unfolding readSlice
   slice-read-late n h = rw (n, lt-leb d 36524 h)
-
--- The change days of a rule of two images.
-module _ (nodes rules : List ℕ) (k : ℕ) where
-  pub changes-read : (readChanges nodes rules k ≡ Accepted) ↔ ((readNodes nodes ≡ Accepted) × ((readRules rules ≡ Accepted) × ((k < length (rulesOf rules)) × (ruleAt (rulesOf rules) k .windowed ≡ 0))))
-  unfolding readChanges
-  changes-read = (λ e. simp says at e, λ w. simp says w)
-
-  pub changes-read-nodes : (a b : ℕ) → readNodes nodes ≡ Refused a b → readChanges nodes rules k ≡ Refused a b
-  unfolding readChanges
-  changes-read-nodes a b h = rw h
-
-  pub changes-read-rules : readNodes nodes ≡ Accepted → (a b : ℕ) → readRules rules ≡ Refused a b → readChanges nodes rules k ≡ Refused a b
-  unfolding readChanges
-  changes-read-rules n a b h = rw (n, h)
-
-  pub changes-read-none : readNodes nodes ≡ Accepted → readRules rules ≡ Accepted → length (rulesOf rules) ≤ k → readChanges nodes rules k ≡ Refused 11 0
-  unfolding readChanges
-  changes-read-none n r h = rw (n, r, le-ltb k (length (rulesOf rules)) h)
-
-  pub changes-read-windowed : readNodes nodes ≡ Accepted → readRules rules ≡ Accepted → k < length (rulesOf rules) → (ruleAt (rulesOf rules) k .windowed ≡ 0 → ⊥) → readChanges nodes rules k ≡ Refused 11 0
-  unfolding readChanges
-  changes-read-windowed n r h w = rw (n, r, lt-ltb k (length (rulesOf rules)) h, ne-eqb (ruleAt (rulesOf rules) k .windowed) 0 w)
 
 -- What a verdict shows is the only thing that fits.
 module _ (doc : Doc) (q r : Rule) where

@@ -17,9 +17,9 @@ use Rattle.columns.specs.declared.Loaded.the-variants.{Refused as Unloaded}
 use Rattle.columns.specs.declared.Columns.{Columns}
 use Rattle.rules.specs.Table.{Table, referredOr}
 use Rattle.rules.proofs.Tables.{refers-to}
-use Rattle.bank.specs.Promises.{VerdictPromise}
-use Rattle.bank.specs.Opening.{Opens}
-use Rattle.bank.proofs.Opens.{still, refused-both}
+use Rattle.opening.specs.Promises.{VerdictPromise}
+use Rattle.opening.specs.Opening.{Opens}
+use Rattle.opening.proofs.Opens.{still, refused-both}
 
 module _ (nodes rules : List ℕ) (k : ℕ) where
   abbrev Right : Verdict → Type 0

@@ -1,4 +1,4 @@
--- The three demands as theorems about the public calls `verdict`, `slice` and `change_days`, and what holds of `write_nodes`, each statement to be read by itself.
+-- The three demands as theorems about the public calls `verdict`, `slice` and `change_days`, what holds of `write_nodes`, and that the plain engine answers alike, each statement to be read by itself.
 use mathlib.Core.Path.{_≡_, refl, sym, _∙_}
 use mathlib.Core.Bool.{true}
 use mathlib.Core.Logic.{_↔_, _⊎_}
@@ -7,6 +7,7 @@ use Prim.Native.Nat.{ℕ, _+_, _*_, _≤_, _<_}
 use native.Mathlib.Omega.{arith}
 use lib.Dec.{leb}
 use lib.IntN.{pos}
+use borrow.Author.Tests.{eq-eqb}
 use lib.ListN.{length, take, drop}
 use Rattle.meaning.specs.Block.{nodeForm, limit, blocksFor}
 use Rattle.meaning.specs.declared.Rule.{Rule}
@@ -26,7 +27,7 @@ use Rattle.meaning.specs.Walk.{count, pick}
 use Rattle.meaning.specs.Select.{reads}
 use Rattle.meaning.specs.Day.{alive, slice, offender, onDays}
 use Rattle.meaning.specs.Window.{Window, shortened, windows}
-use Rattle.meaning.specs.Answer.{referredBy, judged, verdict, readVerdict, sliceAnswer, sliceLent, readSlice, changesOf, changesAnswer, changesLent, readChanges, readWrite}
+use Rattle.meaning.specs.Answer.{referredBy, judged, verdict, readVerdict, sliceAnswer, sliceLent, readSlice, changesOf, changesAnswer, changesLent, readChanges, sequencedVerdict, readWrite}
 use Rattle.meaning.proofs.Unique as Unique
 use Rattle.meaning.proofs.Sound.{SoundNodes, SoundRules}
 use Rattle.meaning.proofs.Lines.{FirstDue, refused-exactly}
@@ -41,6 +42,7 @@ use Rattle.meaning.proofs.Changes.{ChangeDay, At-place}
 use Rattle.meaning.proofs.Faults.{NoFault, FirstFault}
 use Rattle.meaning.proofs.Timetable.{Nth, IsWindow}
 use Rattle.meaning.proofs.Windows.{NoFaultAmong, FirstFaultIn}
+use Rattle.meaning.proofs.Sequenced.{sequenced-same}
 use Rattle.meaning.proofs.Before.{verdictBefore}
 use Rattle.meaning.proofs.Sparing.{PastEnd, Untouched, shortened-where, verdict-same, verdict-holds}
 use Rattle.meaning.proofs.Slices as Slices
@@ -61,7 +63,8 @@ use Rattle.writer.proofs.Rewritten as Rewritten
 use Rattle.writer.proofs.Again as Again
 use Rattle.writer.proofs.Outcomes as Outcomes
 use Rattle.judging.proofs.Modes.{judged-days, judged-windows}
-use Rattle.bank.specs.Promises.{VerdictPromise, SlicePromise, ChangesPromise}
+use Rattle.opening.specs.Promises.{VerdictPromise, SequencedPromise, SlicePromise, ChangesPromise}
+use Rattle.opening.proofs.Sequenced as Asked
 use Rattle.bank.proofs.Calls as Calls
 
 -- Every theorem is about each answer x, and each list `after`, that the promise of a call allows (specs/Promises.antt): nodes and rules are
@@ -112,6 +115,15 @@ answerable nodes rules k = (
 -- a rule is sequenced (01: byte 1 is 0)
 abbrev pub Sequenced : Rule → Type 0
 Sequenced r = r .windowed ≡ 0
+
+-- with a sequenced rule it is what the reading for change days accepts
+sequenced-answerable : (nodes rules : List ℕ) (k : ℕ) → (readChanges nodes rules k ≡ Accepted) ↔ (Answerable nodes rules k × Sequenced (ruleAt (rulesOf rules) k))
+sequenced-answerable nodes rules k = (
+  λ e.
+      let s = Asked.changes-read nodes rules k .0 e in
+      (record { nodes-sound = nodes-accepted nodes .0 (s .0); rules-sound = rules-accepted rules .0 (s .1 .0); in-table = s .1 .1 .0 }, s .1 .1 .1),
+  λ w. Asked.changes-read nodes rules k .1 (nodes-accepted nodes .1 (w .0 .nodes-sound), (rules-accepted rules .1 (w .0 .rules-sound), (w .0 .in-table, w .1))),
+)
 
 -- n numbers are stored from the start of the lent list, those of `list` in its order, and nothing past them
 pub record Filled (list : List ℕ) (n : ℕ) (lent after : List ℕ) : Type 0 where
@@ -222,21 +234,18 @@ changes-refusals nodes rules k lent x after p =
     let early = Calls.listed-early read list lent e (p .1) in
     let n-accepted = nodes-accepted nodes .1 in
     let r-accepted = rules-accepted rules .1 in
-    let accepted : Answerable nodes rules k → Sequenced (ruleAt (rulesOf rules) k) → read ≡ Accepted =
-    λ w s. Calls.changes-read nodes rules k .1 (n-accepted (w .nodes-sound), (r-accepted (w .rules-sound), (w .in-table, s))) in
+    let accepted : Answerable nodes rules k → Sequenced (ruleAt (rulesOf rules) k) → read ≡ Accepted = λ w s. sequenced-answerable nodes rules k .1 (w, s) in
     record {
       exactly = λ a b. Calls.through (Calls.listed-refused read list lent e (p .1) a b) (changes-refused nodes rules k lent a b);
       as-read = Calls.listed-refused read list lent e (p .1);
       given = (
-        λ w. let s = stored (w .0) (w .1) in
-            let r = Calls.changes-read nodes rules k .0 (s .0) in
-            (record { nodes-sound = nodes-accepted nodes .0 (r .0); rules-sound = rules-accepted rules .0 (r .1 .0); in-table = r .1 .1 .0 }, r .1 .1 .1, omega (arith, s .1, s .2)),
+        λ w. let s = stored (w .0) (w .1) in let r = sequenced-answerable nodes rules k .0 (s .0) in (r .0, r .1, omega (arith, s .1, s .2)),
         λ w. (_, Calls.listed-room read list lent e (p .1) (accepted (w .0) (w .1)) (w .2)),
       );
-      nodes-first = λ a b h. early a b (Calls.changes-read-nodes nodes rules k a b h);
-      rules-next = λ n a b h. early a b (Calls.changes-read-rules nodes rules k (n-accepted n) a b h);
-      no-such-rule = λ n r h. early 11 0 (Calls.changes-read-none nodes rules k (n-accepted n) (r-accepted r) h);
-      not-sequenced = λ w h. early 11 0 (Calls.changes-read-windowed nodes rules k (n-accepted (w .nodes-sound)) (r-accepted (w .rules-sound)) (w .in-table) h);
+      nodes-first = λ a b h. early a b (Asked.changes-read-nodes nodes rules k a b h);
+      rules-next = λ n a b h. early a b (Asked.changes-read-rules nodes rules k (n-accepted n) a b h);
+      no-such-rule = λ n r h. early 11 0 (Asked.changes-read-none nodes rules k (n-accepted n) (r-accepted r) h);
+      not-sequenced = λ w h. early 11 0 (Asked.changes-read-windowed nodes rules k (n-accepted (w .nodes-sound)) (r-accepted (w .rules-sound)) (w .in-table) h);
       too-short = λ w s. Calls.listed-short read list lent e (p .1) (accepted w s);
       unchanged = Calls.listed-kept read list lent e (p .1);
       filled = λ n h. let s = stored n h in record { count = s .1; room = s .2; entries = Calls.listed-filled read list lent e (p .1) n h };
@@ -489,3 +498,47 @@ opened-unpacked image c u n r =
 -- So an accepted document has exactly one image.
 pub one-image : (s t : List ℕ) → Bytes s → Bytes t → readNodes s ≡ Accepted → readNodes t ≡ Accepted → nodesOf s ≡ nodesOf t → s ≡ t
 one-image s t hs ht es et = Rewritten.one-image s t hs ht (blocks-good s es) (blocks-good t et)
+
+-- 5. The plain engine (02, request 3), crate `plain`. Its `slice` has the promise of `slice`, so whatever the two answer and leave is the same:
+-- list, refusal, and every entry of the lent list.
+pub plain-slice : (nodes : List ℕ) (d : ℕ) (lent : List ℕ) (x y : Listed) (after other : List ℕ)
+    → SlicePromise nodes d lent x after → SlicePromise nodes d lent y other → (x ≡ y) × (after ≡ other)
+plain-slice = slice-unique
+
+-- Where the rule is sequenced, what `verdict` answers, x, and what `plain::verdict` does, y, are the same: day, record, count and refusals, be the
+-- images, the rule's kind and its number what they may.
+pub plain-verdict : (nodes rules : List ℕ) (k : ℕ) (x y : Verdict) → VerdictPromise nodes rules k x → SequencedPromise nodes rules k y
+    → Sequenced (ruleAt (rulesOf rules) k) → x ≡ y
+plain-verdict nodes rules k x y p q s =
+    Unique.verdict-unique x (verdict nodes rules k) p ∙ sym (sequenced-same nodes rules k (eq-eqb (ruleAt (rulesOf rules) k .windowed) 0 s))
+    ∙ sym (Unique.verdict-unique y (sequencedVerdict nodes rules k) q)
+
+-- What `plain::verdict` refuses, and how.
+pub record PlainRefusals (nodes rules : List ℕ) (k : ℕ) (y : Verdict) : Type 0 where
+  -- as the reading of images and rule is by which `change_days` is refused too
+  pub as-read : (a b : ℕ) → (y ≡ Unjudged a b) ↔ (readChanges nodes rules k ≡ Refused a b)
+  -- not refused exactly when both images are sound, there is such a rule, and it is sequenced
+  pub given : ((a b : ℕ) → y ≡ Unjudged a b → ⊥) ↔ (Answerable nodes rules k × Sequenced (ruleAt (rulesOf rules) k))
+  -- the node image's refusal comes first, ..
+  pub nodes-first : (a b : ℕ) → readNodes nodes ≡ Refused a b → y ≡ Unjudged a b
+  -- .. then the rule image's, ..
+  pub rules-next : SoundNodes nodes → (a b : ℕ) → readRules rules ≡ Refused a b → y ≡ Unjudged a b
+  -- .. then 11 where there is no such rule ..
+  pub no-such-rule : SoundNodes nodes → SoundRules rules → length (rulesOf rules) ≤ k → y ≡ Unjudged 11 0
+  -- .. or it is not sequenced
+  pub not-sequenced : Answerable nodes rules k → (Sequenced (ruleAt (rulesOf rules) k) → ⊥) → y ≡ Unjudged 11 0
+
+-- Each answer that it may give is refused so.
+pub plain-refusals : (nodes rules : List ℕ) (k : ℕ) (y : Verdict) → SequencedPromise nodes rules k y → PlainRefusals nodes rules k y
+plain-refusals nodes rules k y p =
+    let e = Unique.verdict-unique y (sequencedVerdict nodes rules k) p in
+    let read = Calls.sequenced-as-read nodes rules k e in
+    record {
+      as-read = read;
+      given = Calls.through (Calls.sequenced-given nodes rules k e) (sequenced-answerable nodes rules k);
+      nodes-first = λ a b h. read a b .1 (Asked.changes-read-nodes nodes rules k a b h);
+      rules-next = λ n a b h. read a b .1 (Asked.changes-read-rules nodes rules k (nodes-accepted nodes .1 n) a b h);
+      no-such-rule = λ n r h. read 11 0 .1 (Asked.changes-read-none nodes rules k (nodes-accepted nodes .1 n) (rules-accepted rules .1 r) h);
+      not-sequenced = λ w h.
+          read 11 0 .1 (Asked.changes-read-windowed nodes rules k (nodes-accepted nodes .1 (w .nodes-sound)) (rules-accepted rules .1 (w .rules-sound)) (w .in-table) h);
+    }

@@ -5,9 +5,8 @@ use meaning::Output;
 use meaning::Verdict;
 ghost use Rattle.meaning.specs.Lent.{lent};
 ghost use Rattle.writer.specs.Promise.{WritePromise};
-ghost use Rattle.bank.specs.Promises.{VerdictPromise, SlicePromise, ChangesPromise};
+ghost use Rattle.opening.specs.Promises.{VerdictPromise, SlicePromise, ChangesPromise};
 
-pub mod opening; // opening.rt: images opened, once for any number of questions
 pub mod opened; // opened.rt: the answers over opened images
 pub mod looking; // looking.rt: the verdict, with how many places were looked into for it
 

@@ -7,8 +7,8 @@ ghost use mathlib.Core.Path.{_≡_};
 ghost use mathlib.Core.List.{List};
 ghost use Prim.Native.Nat.{ℕ};
 ghost use Rattle.columns.specs.declared.Loaded.the-variants.{Nodes};
-ghost use Rattle.bank.specs.Opening.{Opens};
-ghost use Rattle.bank.specs.Promises.{VerdictPromise};
+ghost use Rattle.opening.specs.Opening.{Opens};
+ghost use Rattle.opening.specs.Promises.{VerdictPromise};
 
 // What is found of a rule of opened images: 11 where there is no such rule; then the columns are surveyed.
 fn judge_opened(columns: Columns, n: usize, rules: &[u8], rule: usize) -> Judged
@@ -56,7 +56,7 @@ fn judge_opened(columns: Columns, n: usize, rules: &[u8], rule: usize) -> Judged
 pub fn judge(nodes: &[u8], rules: &[u8], rule: usize) -> Judged
     ensures { λ r. ⌜ VerdictPromise (now (nodes .entry)) (now (rules .entry)) rule (r .verdict) ⌝ }
 {
-    let columns = crate::opening::open(nodes, rules);
+    let columns = opening::open(nodes, rules);
     let loaded = columns.loaded;
     match loaded {
         Loaded::Refused(number, place) => Judged {

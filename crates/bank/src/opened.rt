@@ -14,8 +14,9 @@ ghost use Rattle.columns.specs.Judgeable.{Judgeable};
 ghost use Rattle.columns.specs.declared.Loaded.the-variants.{Nodes};
 ghost use Rattle.nodes.specs.Unpacking.{Unpacks};
 ghost use Rattle.survey.specs.Surveyed.{Surveyed};
-ghost use Rattle.bank.specs.Opening.{Opens, Open};
-ghost use Rattle.bank.specs.Promises.{VerdictPromise, SlicePromise, ChangesPromise};
+ghost use Rattle.opening.specs.Opening.{Opens};
+ghost use Rattle.bank.specs.Opening.{Open};
+ghost use Rattle.opening.specs.Promises.{VerdictPromise, SlicePromise, ChangesPromise};
 
 // The last day of all.
 const LAST: usize = 36524;

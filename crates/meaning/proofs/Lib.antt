@@ -32,10 +32,12 @@ pub mod Quiet
 pub mod Picks
 pub mod Over
 pub mod Changes
+pub mod DayByDay
 pub mod Rooms
 pub mod Faults
 pub mod Timetable
 pub mod Windows
+pub mod Sequenced
 pub mod Before
 pub mod Sparing
 pub mod Hops

@@ -14,7 +14,7 @@ use Rattle.meaning.proofs.Asking.{onRule, told}
 use Rattle.meaning.proofs.Opened.{opened}
 use Rattle.meaning.proofs.Writing.{days, months, distinct, nodes, table, written}
 use Rattle.meaning.proofs.Pinning.{Posed, pose, Right}
-use Rattle.meaning.proofs.Working.{by-reading}
+use Rattle.meaning.proofs.Working.{after-laws, by-reading}
 use Rattle.meaning.proofs.PinnedImages.{meter, meter-held}
 use Rattle.meaning.proofs.PinnedWindows.{onMeter, losses}
 use Rattle.meaning.proofs.Before.{cardinalityBefore, breaksBefore, offenderBefore, judgedBefore, verdictBefore}
@@ -75,4 +75,4 @@ before-read rules = rw (meter-held .nodes-read, meter-held .document)
 
 pub spared-before : map (λ (s : Spared). verdictBefore (nodes meter) (table (s .rule ∷ [])) 0) spared ≡ map (λ (s : Spared). s .before) spared
 unfolding opened written spared meter cardinalityBefore breaksBefore offenderBefore judgedBefore readBefore
-spared-before = ap (λ (f : Spared → Verdict). map f spared) (fun-ext (λ s. before-read (table (s .rule ∷ [])))) ∙ refl
+spared-before = after-laws (ap (λ (f : Spared → Verdict). map f spared) (fun-ext (λ s. before-read (table (s .rule ∷ [])))) ∙ refl)

@@ -9,6 +9,8 @@ use Rattle.meaning.proofs.Pinning.{Pin, wanted, Right, readAnswer, Pose
 use Rattle.meaning.proofs.Examples.{bank-examples, edge-examples, slip-examples, bank-listed, rules-listed, told-examples}
 use Rattle.meaning.proofs.PinnedWrites.{record-bytes, bank-image, one-block, two-blocks, two-tables, columns-held, lent-examples, answer-examples, image-examples, told-outputs}
 use Rattle.meaning.proofs.Theorems.{nodes-refused, rules-refused, verdict-refused, slice-refused, changes-refused, nothing-changes, enough-days, holds-on-days, fails-on-days, holds-in-windows, fails-in-windows, which-windows}
+use Rattle.meaning.proofs.Agree.{offends-agree, offends-in-agree}
+use Rattle.meaning.proofs.Sequenced.{sequenced-same, sequenced-refused, sequenced-days}
 use Rattle.meaning.proofs.Sparing.{shortened-where, verdict-same, verdict-holds}
 
 -- To work the examples out takes most of a check's time, so a definition that already breaks one of these is refused before it.
@@ -26,6 +28,11 @@ laws-first =
     let law = holds-in-windows in
     let law = fails-in-windows in
     let law = which-windows in
+    let law = offends-agree in
+    let law = offends-in-agree in
+    let law = sequenced-same in
+    let law = sequenced-refused in
+    let law = sequenced-days in
     let law = shortened-where in
     let law = verdict-same in
     let law = verdict-holds in
@@ -46,6 +53,10 @@ laws-first =
     let law = image-examples in
     let law = told-outputs in
     tt
+
+-- what is worked out only then
+pub after-laws : {A : Type 0} → A → A
+after-laws x = let laws = laws-first in x
 
 -- a list of examples may be worked out quickly
 pub by-pinning : (ps : List Pin) → map (λ (p : Pin). quickAnswer (p .nodes) (p .rules) (p .asked)) ps ≡ wanted ps → Right ps

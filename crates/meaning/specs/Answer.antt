@@ -76,6 +76,11 @@ changesAnswer nodes rules k lent = storing (readChanges nodes rules k) (changesO
 unfoldable pub changesLent : List ℕ → List ℕ → ℕ → List ℕ → List ℕ
 changesLent nodes rules k lent = lentAfter (changesAnswer nodes rules k lent) (changesOf nodes rules k) lent
 
+-- the call `plain::verdict`: refused as the reading for change days is, else the verdict over every day
+unfoldable pub sequencedVerdict : List ℕ → List ℕ → ℕ → Verdict
+sequencedVerdict nodes rules k =
+    verdictAfter (readChanges nodes rules k) (onDays (docOf nodes) (referredBy (rulesOf rules) k) (ruleAt (rulesOf rules) k))
+
 -- the call `write_nodes`: the records' own refusal, then 12 for an image that is too short
 unfoldable pub readWrite : ℕ → Lent → List ℕ → Reading
 readWrite n c image = andThen (readLent n c) (need (leb (length (imageOf (nodesLent n c))) (length image)) 12 0)

@@ -1,6 +1,7 @@
 // Reads pairs of images from `pairs.blk` of its folder and prints for each its report, two slices, the change days of two rules, the verdicts
-// on them, whether the node image comes back when its records are written again, and each rule on which a false alarm was followed. The test
-// program of every public call, over many pairs in one process. A pair is a header of 20 bytes and the two images (`tests/README.md`).
+// on them, whether the node image comes back when its records are written again, and each rule on which a false alarm was followed; then, if
+// there is a `plain.blk`, two slices and two verdicts of the plain engine for each pair of it. The test program of every public call, over many
+// pairs in one process. A pair is a header of 20 bytes and the two images (`tests/README.md`).
 use columns::Columns;
 use columns::Loaded;
 use judging::Judged;
@@ -96,19 +97,27 @@ fn write_list(word: &[u8], asked: usize, listed: Listed, list: &[u16]) {
     }
 }
 
+// The slice of a day by one of the engines.
+fn slice_by(nodes: &[u8], day: usize, list: &mut [u16], plainly: bool) -> Listed {
+    if plainly {
+        return plain::slice(nodes, day, list);
+    }
+    bank::slice(nodes, day, list)
+}
+
 // The slice of a day, in a lent list.
-fn write_slice(nodes: &[u8], day: usize, list: &mut [u16]) {
-    let listed = bank::slice(nodes, day, list);
+fn write_slice(nodes: &[u8], day: usize, list: &mut [u16], plainly: bool) {
+    let listed = slice_by(nodes, day, list, plainly);
     write_list(b"slice", day, listed, list);
 }
 
 // The same in a list of so many entries, or of as many as any list needs.
-fn write_slice_in(nodes: &[u8], day: usize, room: usize) {
+fn write_slice_in(nodes: &[u8], day: usize, room: usize, plainly: bool) {
     let mut list = [0u16; LIST_ROOM];
     if room < LIST_ROOM {
-        write_slice(nodes, day, &mut list[0..room]);
+        write_slice(nodes, day, &mut list[0..room], plainly);
     } else {
-        write_slice(nodes, day, &mut list);
+        write_slice(nodes, day, &mut list, plainly);
     }
 }
 
@@ -128,12 +137,21 @@ fn write_changes_in(nodes: &[u8], rules: &[u8], rule: usize, room: usize) {
     }
 }
 
+// The verdict on a rule by one of the engines.
+fn verdict_by(nodes: &[u8], rules: &[u8], rule: usize, plainly: bool) -> Verdict {
+    if plainly {
+        return plain::verdict(nodes, rules, rule);
+    }
+    bank::verdict(nodes, rules, rule)
+}
+
 // The verdict on a rule by its number.
-fn write_verdict(nodes: &[u8], rules: &[u8], rule: usize) {
+fn write_verdict(nodes: &[u8], rules: &[u8], rule: usize, plainly: bool) {
     let mut line = [0u8; LINE];
     let named = spelling::put(&mut line, 0, b"verdict");
     let at = spelling::put_next(&mut line, named, rule);
-    let end = spelling::lines::put_verdict(&mut line, at, bank::verdict(nodes, rules, rule));
+    let verdict = verdict_by(nodes, rules, rule, plainly);
+    let end = spelling::lines::put_verdict(&mut line, at, verdict);
     write_line(&mut line, end);
 }
 
@@ -230,7 +248,7 @@ fn written_again(columns: Columns, image: &mut [u8]) -> Output {
 fn write_again(nodes: &[u8], image: &mut [u8]) {
     let mut line = [0u8; LINE];
     let at = spelling::put(&mut line, 0, b"again");
-    let output = written_again(bank::opening::open_nodes(nodes), image);
+    let output = written_again(opening::open_nodes(nodes), image);
     match output {
         Output::Refused(number, place) => {
             let end = put_refused(&mut line, at, number, place);
@@ -259,28 +277,58 @@ fn write_again_in(nodes: &[u8]) {
     }
 }
 
-// All lines of one pair.
-fn write_pair(number: usize, head: &[u8; 20], nodes: &[u8], rules: &[u8]) {
+// The line that begins a pair: a word and the pair's number.
+fn write_number(word: &[u8], number: usize) {
     let mut line = [0u8; LINE];
-    let named = spelling::put(&mut line, 0, b"pair");
+    let named = spelling::put(&mut line, 0, word);
     let end = spelling::put_next(&mut line, named, number);
     write_line(&mut line, end);
-    write_report(nodes, rules);
-    let first = short(head, 12);
-    let second = short(head, 14);
+}
+
+// The slices of the two days of a header.
+fn write_slices(head: &[u8; 20], nodes: &[u8], plainly: bool) {
     let room = short(head, 16);
-    write_slice_in(nodes, short(head, 8), room);
-    write_slice_in(nodes, short(head, 10), room);
-    write_changes_in(nodes, rules, first, room);
-    write_changes_in(nodes, rules, second, room);
-    write_verdict(nodes, rules, first);
-    write_verdict(nodes, rules, second);
+    write_slice_in(nodes, short(head, 8), room, plainly);
+    write_slice_in(nodes, short(head, 10), room, plainly);
+}
+
+// The verdicts on the two rules of a header.
+fn write_verdicts(head: &[u8; 20], nodes: &[u8], rules: &[u8], plainly: bool) {
+    write_verdict(nodes, rules, short(head, 12), plainly);
+    write_verdict(nodes, rules, short(head, 14), plainly);
+}
+
+// All lines of one pair, by the quick engine.
+fn write_pair(number: usize, head: &[u8; 20], nodes: &[u8], rules: &[u8]) {
+    write_number(b"pair", number);
+    write_report(nodes, rules);
+    write_slices(head, nodes, false);
+    let room = short(head, 16);
+    write_changes_in(nodes, rules, short(head, 12), room);
+    write_changes_in(nodes, rules, short(head, 14), room);
+    write_verdicts(head, nodes, rules, false);
     write_again_in(nodes);
     write_alarms(nodes, rules);
 }
 
+// The lines of one pair by the plain engine.
+fn write_plain(number: usize, head: &[u8; 20], nodes: &[u8], rules: &[u8]) {
+    write_number(b"plain", number);
+    write_slices(head, nodes, true);
+    write_verdicts(head, nodes, rules, true);
+}
+
+// The lines of one pair by one of the engines.
+fn write_by(number: usize, head: &[u8; 20], nodes: &[u8], rules: &[u8], plainly: bool) {
+    if plainly {
+        write_plain(number, head, nodes, rules);
+    } else {
+        write_pair(number, head, nodes, rules);
+    }
+}
+
 // Whether there was one more pair in the file, of images no longer than they may be; its lines are written.
-fn one_pair(fd: i32, number: usize) -> bool {
+fn one_pair(fd: i32, number: usize, plainly: bool) -> bool {
     let mut head = [0u8; 20];
     if !files::filled(fd, &mut head) {
         return false;
@@ -295,26 +343,37 @@ fn one_pair(fd: i32, number: usize) -> bool {
     if !files::filled_front(fd, m, &mut rules) {
         return false;
     }
-    write_pair(
+    write_by(
         number,
         &head,
         spelling::front(&nodes, n),
         spelling::front(&rules, m),
+        plainly,
     );
     true
 }
 
-fn main() {
-    let fd = os::open_read(b"pairs.blk");
-    if fd < 0 {
-        io::write_all(STDOUT_FILENO, b"unreadable pairs.blk\n");
-        return;
-    }
+// The lines of all pairs of a file.
+fn all_pairs(fd: i32, plainly: bool) {
     let mut number: usize = 0;
     while number < MANY {
-        if !one_pair(fd, number) {
+        if !one_pair(fd, number, plainly) {
             return;
         }
         number += 1;
     }
+}
+
+fn main() {
+    let pairs = os::open_read(b"pairs.blk");
+    if pairs < 0 {
+        io::write_all(STDOUT_FILENO, b"unreadable pairs.blk\n");
+        return;
+    }
+    all_pairs(pairs, false);
+    let plain = os::open_read(b"plain.blk");
+    if plain < 0 {
+        return;
+    }
+    all_pairs(plain, true);
 }

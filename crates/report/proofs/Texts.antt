@@ -5,17 +5,20 @@ use Prim.Native.Nat.{ℕ, zero, suc, _+_, _≤_}
 use native.Mathlib.Numerals.{add-one}
 use native.Mathlib.Omega.{arith}
 use lib.ListN.{length}
+use borrow.Author.Tests.{eq-eqb}
+use Rattle.meaning.specs.declared.Rule.{Rule}
 use Rattle.meaning.specs.declared.Verdict.{Verdict}
 use Rattle.meaning.specs.declared.Reading.the-variants.{Refused}
 use Rattle.meaning.specs.Order.{andThen}
 use Rattle.meaning.specs.Nodes.{readNodes}
-use Rattle.meaning.specs.Rules.{rulesOf, readRules}
-use Rattle.meaning.specs.Answer.{verdict}
+use Rattle.meaning.specs.Rules.{ruleAt, rulesOf, readRules}
+use Rattle.meaning.specs.Answer.{verdict, tellVerdict}
+use Rattle.meaning.proofs.Sequenced.{sequenced-same}
 use Rattle.columns.specs.declared.Loaded.the-variants.{Nodes}
 use Rattle.columns.specs.declared.Columns.{Columns}
-use Rattle.bank.specs.Opening.{Opens}
-use Rattle.bank.specs.Promises.{VerdictPromise}
-use Rattle.bank.proofs.Opens.{accepted-both}
+use Rattle.opening.specs.Opening.{Opens}
+use Rattle.opening.specs.Promises.{VerdictPromise, SequencedPromise}
+use Rattle.opening.proofs.Opens.{accepted-both}
 use Rattle.bank.proofs.Theorems.{verdict-unique}
 use Rattle.spelling.specs.Puts.{Puts}
 use Rattle.spelling.proofs.Pieces.{puts-none, puts-as, puts-then}
@@ -46,6 +49,11 @@ module _ (found : ℕ → Verdict) where
 -- what the calls promise of each rule is what the report says of it
 pub promised : (nodes rules : List ℕ) (k : ℕ) {x : Verdict} → VerdictPromise nodes rules k x → x ≡ verdict nodes rules k
 promised nodes rules k {x} p = verdict-unique nodes rules k x (verdict nodes rules k) p refl
+
+-- what the plain engine promises of a sequenced rule is what the quick one does
+pub plainly-promised : (nodes rules : List ℕ) (k : ℕ) {r : Rule} → r ≡ ruleAt (rulesOf rules) k → r .windowed ≡ 0 → (x : Verdict) → SequencedPromise nodes rules k x → VerdictPromise nodes rules k x
+plainly-promised nodes rules k er s x p =
+    p ∙ ap tellVerdict (sequenced-same nodes rules k (eq-eqb (ruleAt (rulesOf rules) k .windowed) 0 (sym (ap (λ (x : Rule). x .windowed) er) ∙ s)))
 
 module _ (nodes rules : List ℕ) where
   pub refused-images : {a b : ℕ} → andThen (readNodes nodes) (readRules rules) ≡ Refused a b → refusedLine a b ≡ reportOf nodes rules

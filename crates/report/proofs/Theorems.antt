@@ -17,7 +17,7 @@ use Rattle.meaning.proofs.Asking.{verdict-quick}
 use Rattle.meaning.proofs.ImageBytes.{bankNodes, bankRules}
 use Rattle.meaning.proofs.Opened.{opened}
 use Rattle.rules.proofs.Tables.{accepted-few}
-use Rattle.bank.proofs.Opens.{still}
+use Rattle.opening.proofs.Opens.{still}
 use Rattle.spelling.specs.Spelled.{word, digitsOf, decimal}
 use Rattle.spelling.specs.Puts.{Puts}
 use Rattle.spelling.proofs.Pieces.{puts-whole, puts-unique}

@@ -1,6 +1,6 @@
 -- `bank::slice` meets its contract: the image's refusal, or what its columns give.
 use borrow.Author.Needs.{needs}
-use Rattle.bank.proofs.Slicing.{slice-refused}
+use Rattle.opening.proofs.Slicing.{slice-refused}
 use Rattle.bank.proofs.slice.Statement.{statement}
 use Rattle.bank.proofs.slice.Tie as tie
 

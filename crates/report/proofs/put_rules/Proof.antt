@@ -14,19 +14,19 @@ use Rattle.report.proofs.put_rules.Statement.{statement}
 use Rattle.report.proofs.put_rules.Tie as tie
 
 abbrev Inv-loop : tie.InvT-loop
-Inv-loop text₀ at rules n kind vkind name parent begin end value item rep group opens closes many all to₀ k₀ text to k =
+Inv-loop text₀ at rules n kind vkind name parent begin end value item rep group opens closes many plainly all to₀ k₀ text to k =
     (length text ≡ length text₀) × (k ≤ all)
     × ((nodes : List ℕ) → Open nodes rules n kind vkind name parent begin end value item rep group opens closes many → Puts text₀ at (ruleLines (verdict nodes rules) 0 k) text to)
 
 abbrev μ-loop : tie.MeasureT-loop
-μ-loop text₀ at rules n kind vkind name parent begin end value item rep group opens closes many all to₀ k₀ text to k = all - k
+μ-loop text₀ at rules n kind vkind name parent begin end value item rep group opens closes many plainly all to₀ k₀ text to k = all - k
 
 -- from what is known of the parameters back to the start
 abbrev start : tie.After-shared-slice-known12 Inv-loop μ-loop → tie.Start Inv-loop μ-loop
 start c = c .before .before .before .before .before .before .before .before .before .before .before .before .before
 
 -- from a line that was put back to the verdict that it tells
-abbrev found : tie.After-put-rule Inv-loop μ-loop → tie.After-verdict-of Inv-loop μ-loop
+abbrev found : tie.After-put-rule Inv-loop μ-loop → tie.After-verdict-by Inv-loop μ-loop
 found c = c .before .before
 
 count-rules-requires : tie.Need-count-rules-requires Inv-loop μ-loop
@@ -35,8 +35,8 @@ count-rules-requires c κs = start c .pre .1 .table
 loop-holds : tie.Need-loop-holds Inv-loop μ-loop
 loop-holds c = (refl, search needs, λ nodes o. rules-none _ _ _)
 
-verdict-of-requires : tie.Need-verdict-of-requires Inv-loop μ-loop
-verdict-of-requires c κs = let n = c .before .before in (omega (arith, n .count-rules .ensures .count), start (n .before) .pre)
+verdict-by-requires : tie.Need-verdict-by-requires Inv-loop μ-loop
+verdict-by-requires c κs = let n = c .before .before in (omega (arith, n .count-rules .ensures .count), start (n .before) .pre)
 
 put-rule-requires : tie.Need-put-rule-requires Inv-loop μ-loop
 put-rule-requires c κs = search needs
@@ -55,7 +55,7 @@ loop-again c =
     let l = head .loop in (
       search needs,
       search needs,
-      λ nodes o. rules-more _ (l .k) (l .inv .2 nodes o) (line .put-rule .ensures) (promised nodes (start (head .before .before) .args .rules .now) (l .k) (v .verdict-of .ensures nodes o)),
+      λ nodes o. rules-more _ (l .k) (l .inv .2 nodes o) (line .put-rule .ensures) (promised nodes (start (head .before .before) .args .rules .now) (l .k) (v .verdict-by .ensures nodes o)),
     )
 
 same-length : tie.Need-same-length Inv-loop μ-loop
@@ -74,7 +74,7 @@ put-rules-spec =
     μ-loop
     count-rules-requires
     loop-holds
-    verdict-of-requires
+    verdict-by-requires
     put-rule-requires
     add-k
     loop-less

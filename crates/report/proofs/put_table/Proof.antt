@@ -1,6 +1,7 @@
 -- `report::put_table` meets its contract: the header, then the lines of what was opened, with its survey.
 use borrow.Author.Needs.{needs}
-use Rattle.bank.proofs.Opens.{open-fronts, opened}
+use Rattle.opening.proofs.Opens.{open-fronts}
+use Rattle.bank.proofs.Opens.{opened}
 use Rattle.spelling.proofs.Pieces.{puts-as, puts-then}
 use Rattle.report.proofs.Texts.{accepted-images}
 use Rattle.report.proofs.put_table.Statement.{statement}

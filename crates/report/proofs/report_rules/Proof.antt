@@ -1,6 +1,6 @@
 -- `report::report_rules` meets its contract: the line of a refusal, or the table.
 use borrow.Author.Needs.{needs}
-use Rattle.bank.proofs.Opens.{refused-after, loaded-after, opens-after}
+use Rattle.opening.proofs.Opens.{refused-after, loaded-after, opens-after}
 use Rattle.spelling.proofs.Pieces.{puts-as}
 use Rattle.report.proofs.Texts.{refused-images}
 use Rattle.report.proofs.report_rules.Statement.{statement}

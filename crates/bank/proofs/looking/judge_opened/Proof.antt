@@ -1,5 +1,6 @@
 -- `bank::looking::judge_opened` meets its contract: no such rule; or what was opened, with its survey, is what a verdict is asked over.
-use Rattle.bank.proofs.Opens.{accepted-both, open-fronts, opened}
+use Rattle.opening.proofs.Opens.{accepted-both, open-fronts}
+use Rattle.bank.proofs.Opens.{opened}
 use Rattle.bank.proofs.Judged.{no-rule, rule-here}
 use Rattle.bank.proofs.looking.judge_opened.Statement.{statement}
 use Rattle.bank.proofs.looking.judge_opened.Tie as tie

@@ -2,7 +2,7 @@
 use mathlib.Core.Path.{sym}
 use borrow.Author.Needs.{needs}
 use Rattle.rules.proofs.Tables.{accepted-row, fields-of, fields-referred}
-use Rattle.bank.proofs.Opens.{accepted-both}
+use Rattle.opening.proofs.Opens.{accepted-both}
 use Rattle.bank.proofs.Turning.{changes-none, changes-windowed, changes-stored, rule-here, turnable}
 use Rattle.bank.proofs.opened.changes_of.Statement.{statement}
 use Rattle.bank.proofs.opened.changes_of.Tie as tie

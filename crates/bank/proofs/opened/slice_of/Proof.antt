@@ -1,6 +1,7 @@
 -- `bank::opened::slice_of` meets its contract: a day past the last, and the list.
 use borrow.Author.Needs.{needs}
-use Rattle.bank.proofs.Slicing.{slice-fronts, slice-late, slice-stored}
+use Rattle.opening.proofs.Slicing.{slice-late}
+use Rattle.bank.proofs.Slicing.{slice-fronts, slice-stored}
 use Rattle.bank.proofs.opened.slice_of.Statement.{statement}
 use Rattle.bank.proofs.opened.slice_of.Tie as tie
 
