@@ -31,6 +31,10 @@ start c = c .before .before .before .before .before .before .before .before .bef
 abbrev turn : tie.After-struct-known2 Inv-loop μ-loop → tie.In-loop Inv-loop μ-loop
 turn c = c .before .before .before .before
 
+-- and to the day's slice
+abbrev sliced : tie.After-struct-known2 Inv-loop μ-loop → tie.After-present-on Inv-loop μ-loop
+sliced c = c .before .before .before
+
 -- the rule's period has a day
 abbrev some-day : (c : tie.In-loop Inv-loop μ-loop) → start (c .before .before) .args .r .begin < start (c .before .before) .args .r .end
 some-day c = rule-row _ .0 (start (c .before .before) .pre .0) .period
@@ -65,7 +69,7 @@ found-on-requires c κs =
     let s = start (t .before .before) in
     let p = s .pre .1 in
     let laid = p .1 in
-    let marks = c .before .before .before .present-on .ensures (p .0) (p .2) in
+    let marks = sliced c .present-on .ensures (p .0) (p .2) in
     (s .pre .0, (p .0, laid .tree, laid .values-held, laid .judgeable, p .3, p .4, omega (arith, t .before .loop .inv .0, laid .judgeable .few), marks .room))
 
 enum-known-found : tie.Need-enum-known-found Inv-loop μ-loop
@@ -76,7 +80,7 @@ returns c doc q laid linked chosen =
     let f = hit c in
     let t = turn (f .before) in
     let w = t .before .loop .inv .2 doc q laid linked chosen in
-    let m = f .before .before .before .before .present-on .ensures doc linked in
+    let m = sliced (f .before) .present-on .ensures doc linked in
     walking-hit doc q _ _ _ w _ m _ (f .found-on .ensures doc q (laid .tree) (laid .values-held) (laid .judgeable) chosen (m .room) (walking-before doc q _ _ _ w))
     (omega (arith, t .loop-test .taken, some-day t)) (c .before .found .given .1)
 
@@ -92,13 +96,12 @@ loop-less c = let t = turn (missed c .before) in omega (arith, t .loop-test .tak
 loop-again : tie.Need-loop-again Inv-loop μ-loop
 loop-again c =
     let f = missed c in
-    let t = turn (f .before) in
-    let on = f .before .before .before .before in (
+    let t = turn (f .before) in (
       search needs,
       omega (arith, t .loop-test .taken, some-day t),
       λ doc q laid linked chosen.
           let w = t .before .loop .inv .2 doc q laid linked chosen in
-          let m = on .present-on .ensures doc linked in
+          let m = sliced (f .before) .present-on .ensures doc linked in
           walking-next doc q _ _ _ w _ m _ (f .found-on .ensures doc q (laid .tree) (laid .values-held) (laid .judgeable) chosen (m .room) (walking-before doc q _ _ _ w)) (c .enum-told .given .1),
     )
 
