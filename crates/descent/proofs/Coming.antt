@@ -15,7 +15,7 @@ use Rattle.meaning.proofs.Walks.{any-some, any-true}
 use Rattle.meaning.proofs.Says.{says}
 use Rattle.meaning.proofs.Slices.{lives}
 use Rattle.columns.specs.Judgeable.{Judgeable}
-use Rattle.descent.specs.Descent.{currentOf, itemIn, comes, Single}
+use Rattle.descent.specs.Descent.{currentOf, itemIn, comes}
 
 module _ (doc : Doc) (d : ℕ) where
   -- w is come to from some item in version v
@@ -134,9 +134,9 @@ module _ (doc : Doc) (d : ℕ) where
         (or-cases top up (and-r here (top || up) e))
 
 -- THE LAW of the descent: what is come to from the root is what is present
-pub comes-present : (doc : Doc) → Judgeable doc → Single doc → (d w : ℕ) → comes doc d deepest 0 w ≡ presentOn doc d w
+pub comes-present : (doc : Doc) → Judgeable doc → (d w : ℕ) → comes doc d deepest 0 w ≡ presentOn doc d w
 unfolding presentOn
-comes-present doc g s d w =
+comes-present doc g d w =
     tests-same (comes doc d deepest 0 w) (presentOn doc d w)
     (λ e. g .present d w ∙ comes-alive doc d deepest 0 w e)
     (λ e. reached-comes doc d g deepest w e)

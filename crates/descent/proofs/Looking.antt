@@ -159,7 +159,7 @@ pub marks-present : {doc : Doc} {vl vw il iw begins ends : List ℕ} → Linked 
 marks-present {doc} l d seen same m =
     record {
       room = omega (arith, l .judgeable .few);
-      mark = λ w h. m w ∙ ap (λ b. b || comes doc d deepest 0 w) (unmarked limit w) ∙ comes-present doc (l .judgeable) (l .single) d w;
+      mark = λ w h. m w ∙ ap (λ b. b || comes doc d deepest 0 w) (unmarked limit w) ∙ comes-present doc (l .judgeable) d w;
     }
 
 -- the versions present, found along chains that the columns give and listed, are the slice
