@@ -2,4 +2,5 @@
 pub mod Along
 pub mod Linking
 pub mod Twins
+pub mod Namesakes
 pub mod Judging

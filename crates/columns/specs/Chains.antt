@@ -2,10 +2,10 @@
 use Prim.Native.Nat.{ℕ, zero, suc, _<_, _≤_}
 use mathlib.Core.Path.{_≡_}
 use mathlib.Core.Bool.{Bool, true, _&&_, cond}
-use mathlib.Core.List.{List}
+use mathlib.Core.List.{List, []}
 use lib.Dec.{eqb}
 use lib.ListN.{length, getD}
-use Rattle.meaning.specs.Document.{Doc, isItem}
+use Rattle.meaning.specs.Document.{Doc, columns, isItem}
 
 -- one past the last of the numbers below t that pass, 0 where none does
 unfoldable pub pastLast : (ℕ → Bool) → ℕ → ℕ
@@ -37,3 +37,14 @@ pub record Twins (doc : Doc) (twin : List ℕ) : Type 0 where
   pub key : ℕ → ℕ
   pub same : (i j : ℕ) → i < doc .size → j < doc .size → doc .item j ≡ doc .item i → key j ≡ key i
   pub steps : (i : ℕ) → i < doc .size → isItem doc i ≡ true → getD twin i 0 ≡ pastLast (λ j. isItem doc j && eqb (key j) (key i)) i
+
+-- the document of which kinds and item numbers alone are told
+abbrev pub numbered : List ℕ → List ℕ → Doc
+numbered kinds items = columns kinds [] [] [] [] [] [] items []
+
+-- j is an item with the number of item i: a lower one, or i itself, and then no lower item has it
+pub record Namesake (doc : Doc) (i j : ℕ) : Type 0 where
+  pub low : j ≤ i
+  pub item : doc .kind j ≡ 1
+  pub number : doc .item j ≡ doc .item i
+  pub none : j ≡ i → (k : ℕ) → k < i → doc .kind k ≡ 1 → doc .item k ≡ doc .item i → ⊥

@@ -4,9 +4,9 @@ use crate::LIMIT;
 use numbers::index;
 ghost use mathlib.Core.Path.{_≡_};
 ghost use Prim.Native.Nat.{_<_, _≤_, _%_};
-ghost use lib.ListN.{length};
+ghost use lib.ListN.{length, getD};
 ghost use Rattle.meaning.specs.Block.{limit};
-ghost use Rattle.columns.specs.Chains.{Chained, Grouped};
+ghost use Rattle.columns.specs.Chains.{Chained, Grouped, Twins, Namesake, numbered};
 
 // For each key the last record that has it, and for each record the one before it that has its key; counted from one, 0 for none.
 pub struct Links {
@@ -52,4 +52,21 @@ pub fn buckets(item: &[u32]) -> [u16; LIMIT]
         i += 1;
     }
     key
+}
+
+// The next lower item of the number of item i, down the chain of its key, or i itself where there is none.
+// Cost: a look for each lower item of its key, down to the first of its number.
+pub fn namesake(kind: &[u8], item: &[u32], twin: &[u16], i: usize) -> usize
+    requires { ⌜ (length (now item) ≡ length (now kind)) × (i < length (now kind)) × (getD (now kind) i 0 ≡ 1) × Twins (numbered (now kind) (now item)) (now twin) ⌝ }
+    ensures { λ r. ⌜ Namesake (numbered (now (kind .entry)) (now (item .entry))) i r ⌝ }
+{
+    let number = item[i];
+    let mut past_j = index(twin[i]);
+    while 0 < past_j {
+        if item[past_j - 1] == number {
+            return past_j - 1;
+        }
+        past_j = index(twin[past_j - 1]);
+    }
+    i
 }

@@ -8,6 +8,7 @@ pub mod Handed
 pub mod Meeting
 pub mod Pairs
 pub mod Lowering
+pub mod Clears
 pub mod Run
 pub mod Stages
 pub mod Fronts

@@ -4,6 +4,7 @@ use columns::chains::buckets;
 use columns::chains::chain;
 use meaning::Found;
 use numbers::index;
+use twins::clear_below;
 ghost use mathlib.Core.Path.{_≡_};
 ghost use mathlib.Core.List.{[], _∷_};
 ghost use Prim.Native.Nat.{_<_, _≤_};
@@ -14,6 +15,7 @@ ghost use Rattle.meaning.specs.Nodes.{shareDay, overlap, clash, clashes};
 ghost use Rattle.document.specs.Level.{Level};
 ghost use Rattle.meaning.specs.Block.{limit};
 ghost use Rattle.columns.specs.Chains.{Chained, Twins};
+ghost use Rattle.twins.specs.Clear.{Clear};
 ghost use Rattle.document.specs.Meet.{meetsItem};
 
 // Whether versions u and v share a day.
@@ -162,10 +164,35 @@ fn first_chained(
     Found::Nothing
 }
 
-// The lowest item that clashes with a lower one.
-// Cost: three passes over the columns, then a look for each pair of items that share a key, and for each pair of versions of items that share
-// a number: no more than n²/2 looks. For 1,000 records that is 40,000 instructions where the numbers differ, 4 million where 500 items
-// of one version each have one number, and 6 million at worst, where 998 items without a version do.
+// The lowest item that clashes with a lower one, where none below i does: i, if it does. If it does not, which `clear_below` brings about only where
+// versions of one item share a day, every item is looked at. Cost: two passes over the columns, and a look for each pair of a version of i and
+// one of a lower item of its number.
+fn first_from(
+    kind: &[u8],
+    name: &[u16],
+    parent: &[u16],
+    begin: &[u16],
+    end: &[u16],
+    item: &[u32],
+    twin: &[u16],
+    i: usize,
+) -> Found
+    requires { ⌜ (length (now kind) ≤ limit) × Level (now kind) (now name ∷ now parent ∷ now begin ∷ now end ∷ now item ∷ []) × (i < length (now kind)) × Twins (columns (now kind) [] (now name) (now parent) (now begin) (now end) [] (now item) []) (now twin) × Clear (columns (now kind) [] (now name) (now parent) (now begin) (now end) [] (now item) []) i ⌝ }
+    ensures { λ r. ⌜ r ≡ first (clashes (columns (now (kind .entry)) [] (now (name .entry)) (now (parent .entry)) (now (begin .entry)) (now (end .entry)) [] (now (item .entry)) [])) 0 (length (now (kind .entry))) ⌝ }
+{
+    let versions = chain(kind, parent, 2);
+    let last = versions.last;
+    let lower = versions.lower;
+    if clashes_lower(kind, name, parent, begin, end, item, &last, &lower, twin, i) {
+        return Found::At(i);
+    }
+    first_chained(kind, name, parent, begin, end, item, &last, &lower, twin)
+}
+
+// The lowest item that clashes with a lower one. Numbers, names and days are looked at in passes first (`clear_below`), and pairs only of the item at
+// which these find something amiss.
+// Cost: two passes over the columns and those of `clear_below`; where an item clashes, those of `first_from`. For 1,000 records that is 40,000
+// instructions where the numbers differ, and COUNTED.
 pub fn first_clash(
     kind: &[u8],
     name: &[u16],
@@ -177,11 +204,12 @@ pub fn first_clash(
     requires { ⌜ (length (now kind) ≤ limit) × Level (now kind) (now name ∷ now parent ∷ now begin ∷ now end ∷ now item ∷ []) ⌝ }
     ensures { λ r. ⌜ r ≡ first (clashes (columns (now (kind .entry)) [] (now (name .entry)) (now (parent .entry)) (now (begin .entry)) (now (end .entry)) [] (now (item .entry)) [])) 0 (length (now (kind .entry))) ⌝ }
 {
-    let versions = chain(kind, parent, 2);
-    let last = versions.last;
-    let lower = versions.lower;
     let key = buckets(item);
     let items = chain(kind, &key, 1);
     let twin = items.lower;
-    first_chained(kind, name, parent, begin, end, item, &last, &lower, &twin)
+    let clear = clear_below(kind, name, parent, begin, end, item, &twin);
+    if clear == kind.len() {
+        return Found::Nothing;
+    }
+    first_from(kind, name, parent, begin, end, item, &twin, clear)
 }
