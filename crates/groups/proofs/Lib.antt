@@ -1,4 +1,4 @@
 -- The laws behind the classes of item numbers.
 pub mod Classing
-pub mod Falling
+pub mod Namesakes
 pub mod Gathering

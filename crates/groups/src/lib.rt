@@ -3,6 +3,7 @@ use columns::LIMIT;
 use columns::chains::Links;
 use columns::chains::buckets;
 use columns::chains::chain;
+use columns::chains::namesake;
 use numbers::index;
 ghost use mathlib.Core.Path.{_≡_};
 ghost use Prim.Native.Nat.{ℕ, _<_, _≤_};
@@ -18,7 +19,7 @@ ghost use Rattle.groups.specs.Groups.{Groups, Gathered};
 ghost use Rattle.groups.specs.Classes.{Nested, held, Class, ClassedBelow, classAt};
 
 // The class of item i, given those of the records below it: that of a lower item of its number, or i itself where there is none.
-// A look for each lower item of its key, down to the first of its number.
+// Cost: that of `namesake`.
 fn class_of_item(
     kind: &[u8],
     parent: &[u16],
@@ -30,12 +31,9 @@ fn class_of_item(
     requires { ⌜ Nested (now kind) (now parent) (now item) × Twins (held (now kind) (now parent) (now item)) (now twin) × (length (now kind) ≤ length (now class)) × (i < length (now kind)) × ClassedBelow (held (now kind) (now parent) (now item)) i (now class) × (getD (now kind) i 0 ≡ 1) ⌝ }
     ensures { λ r. ⌜ Class (held (now (kind .entry)) (now (parent .entry)) (now (item .entry))) i r ⌝ }
 {
-    let mut past_j = index(twin[i]);
-    while 0 < past_j {
-        if item[past_j - 1] == item[i] {
-            return class[past_j - 1];
-        }
-        past_j = index(twin[past_j - 1]);
+    let j = namesake(kind, item, twin, i);
+    if j < i {
+        return class[j];
     }
     i as u16
 }

@@ -28,13 +28,14 @@ module _ (kinds names parents begins ends items classes : List ℕ) (named m : �
       record {
         few = omega (arith, s .few);
         none = λ i h. simp says (λ k j z l p.
-            let o : OneNumber kinds items j i = record { item = p .0; other = k; number = p .1 } in
-            (s .name j i (omega arith) (omega arith) o,
-            λ u a b x v c d y f.
-            let g = t .apart u v (simp says (x .0, omega (arith, x .1))) (simp says (y .0, omega (arith, y .1)))
-                (ap (λ w. getD classes w 0) (x .1) ∙ s .class j i (omega arith) (omega arith) o ∙ sym (ap (λ w. getD classes w 0) (y .1)))
-                (λ w. let q : getD parents u 0 ≡ getD parents v 0 = ap (λ r. getD parents r 0) w in omega (arith, x .1, y .1)) f in
-            omega arith));
+            let o : OneNumber kinds items j i = record { item = p .0; other = k; number = p .1 } in (
+              s .name j i (omega arith) (omega arith) o,
+              λ u a b x v c d y f.
+                  let g = t .apart u v (simp says (x .0, omega (arith, x .1))) (simp says (y .0, omega (arith, y .1)))
+                  (ap (λ w. getD classes w 0) (x .1) ∙ s .class j i (omega arith) (omega arith) o ∙ sym (ap (λ w. getD classes w 0) (y .1)))
+                  (λ w. let q : getD parents u 0 ≡ getD parents v 0 = ap (λ r. getD parents r 0) w in omega (arith, x .1, y .1)) f in
+                  omega arith,
+            ));
       }
 
 -- nor do items that have no number in common

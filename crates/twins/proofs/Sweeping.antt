@@ -1,16 +1,18 @@
 -- How the pass along a list of versions goes on. T, C, A, B: whether the version at a position is taken, its class, begin and end.
 use mathlib.Core.Path.{_≡_, refl, sym, _∙_, ap}
-use mathlib.Core.Logic.{_⊎_, ⊎-elim}
+use mathlib.Core.Logic.{⊎-elim}
 use mathlib.Core.Bool.{Bool, true, false}
 use mathlib.Core.List.{List}
 use Prim.Native.Nat.{ℕ, _+_, _≤_, _<_}
+use native.Mathlib.Nat.{eq-or-lt-of-le}
 use native.Mathlib.Omega.{arith}
+use lib.Dec.{eqb}
 use lib.ListN.{length, getD, set}
 use lib.Seq.{getD-set-same, getD-set-other}
 use Rattle.meaning.proofs.Basics.{went, clear, le-or-lt}
 use Rattle.meaning.proofs.Says.{says}
 use Rattle.twins.specs.Apart.{under, classOf, Held, Lists, Follows, Apart}
-use Rattle.twins.proofs.Classing.{same-or, last-or}
+use Rattle.twins.proofs.Classing.{last-or}
 
 module _ (T : ℕ → Bool) (C A B : ℕ → ℕ) where
   -- the positions below i are done: the reach of a class is no earlier than any of its ends, and each began where those before it had ended
@@ -42,13 +44,15 @@ module _ (T : ℕ → Bool) (C A B : ℕ → ℕ) where
           = λ q h t p. rw p at (s .reached q h t) in
           record {
             reached = λ q h t. ⊎-elim
-                (λ (p : C q ≡ c).
+                (λ y.
+                let p = simp says at y in
                 rw (p, new)
                 (⊎-elim (λ (z : q ≡ i). rw z (omega arith)) (λ z. omega (arith, ended q z t p)) (last-or q i (omega arith))))
-                (λ (p : C q ≡ c → ⊥).
+                (λ n.
+                let p = simp says at n in
                 let z : q ≡ i → ⊥ = λ y. p (ap C y ∙ sym e) in
                 rw (getD-set-other reach c (C q) (B i) 0 p) (s .reached q (omega arith) t))
-                (same-or (C q) c);
+                (went (eqb (C q) c));
             apart = λ q r g h t w p. ⊎-elim
                 (λ (z : r ≡ i). rw z (omega (arith, ended q (omega arith) t (p ∙ ap C z ∙ sym e))))
                 (λ z. s .apart q r g z t w p)
@@ -92,13 +96,13 @@ module _ (kinds parents begins ends classes order : List ℕ) (m : ℕ) where
                 let x = l .all u (simp says at tu .0) in
                 let y = l .all v (simp says at tv .0) in
                 ⊎-elim
-                (λ (p : l .place u ≡ l .place v). n (sym (x .1) ∙ ap (λ k. getD order k 0) p ∙ y .1))
-                (λ (p : l .place u ≡ l .place v → ⊥).
+                (λ (q : l .place u ≤ l .place v).
                 ⊎-elim
-                (λ (q : l .place u ≤ l .place v). omega (arith, ordered (l .place u) (l .place v) (omega arith) (y .0) u v (x .1) (y .1) tu tv e))
-                (λ (q : l .place v < l .place u). omega (arith, ordered (l .place v) (l .place u) q (x .0) v u (y .1) (x .1) tv tu (sym e)))
-                (le-or-lt (l .place u) (l .place v)))
-                (same-or (l .place u) (l .place v));
+                (λ (p : l .place u ≡ l .place v). n (sym (x .1) ∙ ap (λ k. getD order k 0) p ∙ y .1))
+                (λ p. omega (arith, ordered (l .place u) (l .place v) p (y .0) u v (x .1) (y .1) tu tv e))
+                (eq-or-lt-of-le q))
+                (λ q. omega (arith, ordered (l .place v) (l .place u) q (x .0) v u (y .1) (x .1) tv tu (sym e)))
+                (le-or-lt (l .place u) (l .place v));
           }
 
 -- fewer items are held, and none lie apart

@@ -34,7 +34,7 @@ twins : (c : tie.After-twin2) → let x = entry (filled c) .args in Twins (colum
 twins c =
     let x = entry (filled c) .args in
     twins-of (x .kind .now) (x .name .now) (x .parent .now) (x .begin .now) (x .end .now) (x .item .now) _ _ _ _ (entry (filled c) .pre .1 .1 .1 .1 .1 .0)
-        (filled c .buckets .ensures) (c .before .before .chain .ensures)
+    (filled c .buckets .ensures) (c .before .before .chain .ensures)
 
 clear-below-requires : tie.Need-clear-below-requires
 clear-below-requires c κs =
