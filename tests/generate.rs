@@ -3,8 +3,9 @@
 //! usage: generate SEED SMALL LARGE OUT
 //!
 //! SMALL pairs have 2 to 40 records and 1 to 10 rules, LARGE ones 500 to 1,000 records and up to 100 rules; the large ones
-//! stand evenly among the small ones. The same seed and counts give the same file. Of a hundred small pairs 34 are sound,
-//! 20 crowded, 16 at an edge, 24 damaged, 6 garbage; of a hundred large ones 76 are sound, 10 at an edge, 14 damaged.
+//! stand evenly among the small ones. The same seed and counts give the same file. Of a hundred small pairs 28 are sound,
+//! 20 crowded, 6 of namesakes, 16 at an edge, 24 damaged, 6 garbage; of a hundred large ones 66 are sound, 10 of namesakes,
+//! 10 at an edge, 14 damaged. Half of those of namesakes have a flaw by which items clash.
 use std::fs::File;
 use std::io::{self, BufWriter, Write};
 
@@ -14,6 +15,8 @@ mod asks;
 mod bank;
 #[path = "generate/damage.rs"]
 mod damage;
+#[path = "generate/namesakes.rs"]
+mod namesakes;
 #[path = "generate/random.rs"]
 mod random;
 #[path = "generate/records.rs"]
@@ -23,6 +26,7 @@ mod table;
 
 use bank::{grown, Plan, Shape};
 use damage::{break_images, break_node, break_rule, deepen, garbage, nudge, tangle};
+use namesakes::{flaw, namesakes};
 use random::Random;
 use records::{Images, Pair};
 use table::{rules, rules_again, Cost};
@@ -130,10 +134,9 @@ fn small_edge(random: &mut Random) -> Pair {
     pair
 }
 
-/// Few rules and short periods for most, since a checker that looks at each day would take long over many.
-fn large(random: &mut Random, edge: bool) -> Pair {
-    let records = if edge { random.pick(&[1000, 1000, 999, 975, 976]) } else { random.between(500, 1000) };
-    let plan = plan(random, records);
+/// How many rules a large bank has and what they may cost: few and short periods for most, since a checker that looks at each day would
+/// take long over many.
+fn large_cost(random: &mut Random, edge: bool) -> (usize, Cost) {
     let count = match random.share(&[80, 15, 5]) {
         _ if edge && random.chance(40) => random.pick(&[100, 100, 99, 90, 91]),
         0 => random.between(1, 12),
@@ -141,12 +144,31 @@ fn large(random: &mut Random, edge: bool) -> Pair {
         _ => random.between(40, 100),
     };
     let over = if count < 15 { 2 } else { 0 };
-    let cost = Cost { days: 30000 / (count + 9), windows: 3000 / (count + 9), over };
+    (count, Cost { days: 30000 / (count + 9), windows: 3000 / (count + 9), over })
+}
+
+fn large(random: &mut Random, edge: bool) -> Pair {
+    let records = if edge { random.pick(&[1000, 1000, 999, 975, 976]) } else { random.between(500, 1000) };
+    let plan = plan(random, records);
+    let (count, cost) = large_cost(random, edge);
     let mut pair = sound(random, &plan, count, &cost);
     if edge && random.chance(30) {
         nudge(random, &mut pair);
     }
     pair
+}
+
+/// A sound bank of namesakes with a day for each record or many more, and rules over it; what clashes comes later.
+fn of_namesakes(random: &mut Random, is_large: bool) -> Pair {
+    let records = if is_large { random.between(500, 1000) } else { random.between(12, 40) };
+    let span = (records * random.pick(&[1, 3, 40])).min(36525);
+    let first = random.below(36526 - span);
+    let mut plan = plan(random, records);
+    (plan.first, plan.last) = (first as u16, (first + span) as u16);
+    let (count, cost) = if is_large { large_cost(random, false) } else { (random.between(1, 10), small_cost()) };
+    let nodes = namesakes(random, (plan.first, plan.last), records);
+    let rules = rules(random, &nodes, &plan, count, &cost);
+    Pair { nodes, rules }
 }
 
 /// One to three breaks: of nodes, of rules, of the images as bytes; or several of nesting.
@@ -173,15 +195,19 @@ fn damaged(random: &mut Random, mut pair: Pair) -> Images {
 
 /// The next pair as it stands in the file.
 fn next_pair(random: &mut Random, is_large: bool) -> Vec<u8> {
-    let shares = if is_large { [76, 10, 14, 0, 0] } else { [34, 16, 24, 6, 20] };
+    let shares = if is_large { [66, 10, 14, 0, 0, 10] } else { [28, 16, 24, 6, 20, 6] };
     let class = random.share(&shares);
-    let pair = match class {
+    let mut pair = match class {
+        5 => of_namesakes(random, is_large),
         _ if is_large => large(random, class == 1),
         1 => small_edge(random),
         4 => small_crowded(random),
         _ => small_sound(random),
     };
     let asked = asks::asked(random, &pair, if class == 1 { 40 } else { 12 });
+    if class == 5 {
+        flaw(random, &mut pair.nodes);
+    }
     let mut images = if class == 2 { damaged(random, pair) } else { pair.images() };
     if class == 3 {
         garbage(random, &mut images);
