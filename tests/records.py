@@ -1,4 +1,4 @@
-"""Records for the writer: the cases of folders, sound records with known images, and such with one field at an edge; used by `writes`."""
+"""Records for the writer: the cases of folders, sound records with known images, such with one field at an edge, namesakes; used by `writes`."""
 import os
 import struct
 from collections import namedtuple
@@ -187,8 +187,30 @@ def changed(draw, case, records):
     return case._replace(name=f"{case.name}, field {field} of {i} changed", columns=columns, answer=None, image=None)
 
 
+def namesakes(draw, name):
+    """Items of one number and name, each with a version of ten days of its own, in any order of these days: sound, or such that two share a day,
+    one has another name, or both. The lowest item that clashes with a lower one is known."""
+    count = draw.choice((2, 3, 10, 40, 499))
+    records, places = [(IS_ITEM, 0, 1, 65535, 0, 0, 0, 1), (IS_VERSION, 0, 0, 0, 0, 10 * count, 0, 0)], []
+    for k in draw.sample(range(count), count):
+        records += [(IS_ITEM, 0, 2, 1, 0, 0, 0, 7), (IS_VERSION, 1, 0, len(records), 10 * k, 10 * k + 10, k, 0)]
+    if draw.random() < 0.4:
+        end = 10 * draw.randrange(1, count)
+        sooner, later = (next(v for v in range(3, len(records)) if records[v][field] == end) for field in (END, BEGIN))
+        records = put(records, sooner, END, end + 1)
+        places.append(records[max(sooner, later)][PARENT])
+    if draw.random() < 0.4:
+        renamed = draw.randrange(2, len(records), 2)
+        records = put(records, renamed, NAME, 3)
+        places.append(max(renamed, 4))  # the first has none below it: then the second clashes with it
+    case = sound(name, records, bytes_for(len(records)))
+    return case._replace(answer=f"refused 9 {min(places)}", image=b"") if places else case
+
+
 def drawn(draw, name, sounds):
-    """A random case: sound records or, more often, such with a field changed; some with a short column, or with longer ones."""
+    """A random case: sound records or, more often, such with a field changed; some with a short column, or with longer ones; and namesakes."""
+    if draw.random() < 0.05:
+        return namesakes(draw, name)
     records = draw.choice(sounds)
     if draw.random() < 0.1:
         records = grown(draw, records, draw.choice(COUNTS))
