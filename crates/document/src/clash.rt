@@ -164,9 +164,8 @@ fn first_chained(
     Found::Nothing
 }
 
-// The lowest item that clashes with a lower one, where none below i does: i, if it does. If it does not, which `clear_below` brings about only where
-// versions of one item share a day, every item is looked at. Cost: two passes over the columns, and a look for each pair of a version of i and
-// one of a lower item of its number.
+// The lowest item that clashes with a lower one, where none below i does: i, if it clashes. If it does not, which is so in no document that has passed
+// 5 and 7, every item is looked at. Cost: a pass over the columns, and a look for each pair of a version of i and one of a lower item of its number.
 fn first_from(
     kind: &[u8],
     name: &[u16],
@@ -189,10 +188,9 @@ fn first_from(
     first_chained(kind, name, parent, begin, end, item, &last, &lower, twin)
 }
 
-// The lowest item that clashes with a lower one. Numbers, names and days are looked at in passes first (`clear_below`), and pairs only of the item at
-// which these find something amiss.
-// Cost: two passes over the columns and those of `clear_below`; where an item clashes, those of `first_from`. For 1,000 records that is 40,000
-// instructions where the numbers differ, and COUNTED.
+// The lowest item that clashes with a lower one. Numbers, then names, then days are looked at in passes (`clear_below`), and pairs only of the item
+// at which these find something amiss.
+// Cost: two passes over the columns and those of `clear_below`; where an item clashes, that of `first_from`. Counts are in docs/COST.md.
 pub fn first_clash(
     kind: &[u8],
     name: &[u16],
