@@ -9,8 +9,8 @@ use names::classes;
 use orders::versions_by;
 ghost use mathlib.Core.Path.{_≡_};
 ghost use mathlib.Core.List.{[]};
-ghost use Prim.Native.Nat.{ℕ, _<_, _≤_};
-ghost use lib.ListN.{length, getD};
+ghost use Prim.Native.Nat.{_≤_};
+ghost use lib.ListN.{length};
 ghost use Rattle.meaning.specs.Block.{limit};
 ghost use Rattle.meaning.specs.Document.{columns};
 ghost use Rattle.columns.specs.Chains.{Twins};
@@ -50,11 +50,13 @@ pub fn clear_below(
     let n = kind.len();
     let records = own_places(n);
     let mut class = records;
+    // Numbers, then names: where no two items share a number, that is all.
     let named = classes(kind, name, item, twin, &mut class);
     let m = named.below;
     if !named.shared {
         return m;
     }
+    // Then days.
     if lie_apart(kind, parent, begin, end, &class, &records, n, m) {
         return m;
     }

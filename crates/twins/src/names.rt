@@ -2,7 +2,6 @@
 use columns::chains::namesake;
 ghost use mathlib.Core.Path.{_≡_};
 ghost use mathlib.Core.Bool.{false};
-ghost use Prim.Native.Nat.{_<_, _≤_};
 ghost use lib.ListN.{length};
 ghost use Rattle.columns.specs.Chains.{Twins, numbered};
 ghost use Rattle.twins.specs.Classed.{OwnPlaces, Classed, Alone};
