@@ -10,7 +10,7 @@ use Rattle.meaning.specs.declared.Rule.{Rule}
 use Rattle.meaning.specs.Walk.{any, count}
 use Rattle.meaning.specs.Document.{Doc, numberOf}
 use Rattle.meaning.specs.Rules.{byKind, isReference}
-use Rattle.meaning.specs.Select.{selected, fieldOf, readsOwn, valued, sameValue, within, isNumber, present, gives, has}
+use Rattle.meaning.specs.Select.{selected, fieldOf, readsOwn, valued, sameValue, within, isNil, isNumber, present, gives, hasNil, has}
 use Rattle.meaning.specs.Day.{values, sharesOnly, taken, key, unique, reference, cardinality, datatype, breaks, offends}
 use Rattle.meaning.specs.Window.{Window, valueless, shares, sharedIn, keyIn, referenceIn, under, counts, cardinalityIn, follows, jumps, datatypeIn, breaksIn, offendsIn}
 use Rattle.meaning.proofs.Basics.{went, and-same}
@@ -55,7 +55,7 @@ module _ (doc : Doc) (p p′ : ℕ → Bool) where
     counts-same : counts doc p r ≡ counts doc p′ r
     unfolding counts
     counts-same =
-        ap {B = ℕ → ℕ → Bool} (λ (h : ℕ → ℕ → Bool) (n f : ℕ). h n f && not (eqb (r .distinct) 1 && any (λ g. sameValue doc f g && h n g) 0 f)) under-same
+        ap {B = ℕ → ℕ → Bool} (λ (h : ℕ → ℕ → Bool) (n f : ℕ). h n f && not (eqb (r .distinct) 1 && (isNil doc f || any (λ g. sameValue doc f g && h n g) 0 f))) under-same
 
     jumps-same : jumps doc p r ≡ jumps doc p′ r
     unfolding jumps follows
@@ -63,7 +63,7 @@ module _ (doc : Doc) (p p′ : ℕ → Bool) where
         ap {B = ℕ → ℕ → ℕ → Bool} (λ (h : ℕ → ℕ → Bool) (n f g : ℕ).
         not (within r (doc .value f -ℤ doc .value g))
         && (isNumber doc g && leb (doc .end g) (doc .begin f) && h n g
-        && not (any (λ x. leb (doc .end g) (doc .begin x) && leb (doc .end x) (doc .begin f) && h n x) 0 (doc .size))))
+        && not (any (λ x. leb (doc .end g) (doc .begin x) && leb (doc .end x) (doc .begin f) && h n x && not (isNil doc x)) 0 (doc .size))))
         under-same
 
     values-same : (v : ℕ) → selected doc r v ≡ true → values doc p r v ≡ values doc p′ r v
@@ -99,9 +99,9 @@ module _ (doc : Doc) (p p′ : ℕ → Bool) where
 
   module _ (q r : Rule) (a : Agree r) (b : isReference r ≡ true → Agree q) where
     breaks-same : (k : ℕ) → r .kind ≡ k → (v : ℕ) → selected doc r v ≡ true → breaks doc p q r v k ≡ breaks doc p′ q r v k
-    unfolding byKind breaks key unique reference cardinality datatype taken
+    unfolding byKind breaks key unique reference cardinality datatype taken hasNil
     breaks-same zero e v s = refl
-    breaks-same (suc zero) e v s = rw (values-same r a v s, only-same r a r a v s)
+    breaks-same (suc zero) e v s = rw (values-same r a v s, gives-same r a v s, only-same r a r a v s)
     breaks-same (suc (suc zero)) e v s = rw (values-same r a v s, only-same r a r a v s)
     breaks-same (suc (suc (suc zero))) e v s = rw (values-same r a v s, only-same r a q (b (eq-eqb (r .kind) 3 e)) v s)
     breaks-same (suc (suc (suc (suc zero)))) e v s =
@@ -114,7 +114,7 @@ module _ (doc : Doc) (p p′ : ℕ → Bool) where
     offends-agree = fun-ext (λ v. behind r a v _ _ (breaks-same (r .kind) refl v))
 
     breaks-in-same : (w : Window) (k : ℕ) → r .kind ≡ k → (v : ℕ) → breaksIn doc p w q r v k ≡ breaksIn doc p′ w q r v k
-    unfolding byKind breaksIn keyIn valueless sharedIn referenceIn cardinalityIn datatypeIn
+    unfolding byKind breaksIn keyIn valueless hasNil sharedIn referenceIn cardinalityIn datatypeIn
     breaks-in-same w zero e v = refl
     breaks-in-same w (suc zero) e v = behind r a v _ _ (λ s. rw (gives-same r a v s, shares-same r a r a v s))
     breaks-in-same w (suc (suc zero)) e v = behind r a v _ _ (λ s. rw (shares-same r a r a v s))
@@ -125,7 +125,7 @@ module _ (doc : Doc) (p p′ : ℕ → Bool) where
     breaks-in-same w (suc (suc (suc (suc (suc k))))) e v =
         ap (λ (h : ℕ → Bool). any h 0 (doc .size))
         (fun-ext (λ u.
-        ap₂ (λ (x : Bool) (h : ℕ → ℕ → ℕ → Bool). x && (not (isNumber doc v) || any (h (numberOf doc u) v) 0 (doc .size)))
+        ap₂ (λ (x : Bool) (h : ℕ → ℕ → ℕ → Bool). x && not (isNil doc v) && (not (isNumber doc v) || any (h (numberOf doc u) v) 0 (doc .size)))
         (present-gives r a u v) (jumps-same r a)))
 
     -- in a window

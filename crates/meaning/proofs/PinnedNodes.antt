@@ -68,6 +68,7 @@ nodeBlocks =
     ∷ sliced little 29 (1 ∷ 3 ∷ 6 ∷ []) 3
     ∷ sliced little 30 (1 ∷ 4 ∷ []) 2
     ∷ sliced little 36524 (7 ∷ []) 1
+    ∷ sliced (inNode 7 1 (3 ∷ []) little) 36524 (7 ∷ []) 1
     ∷ sliced (nodes deep) 0 (1 ∷ 3 ∷ 5 ∷ 7 ∷ 9 ∷ 11 ∷ 13 ∷ 15 ∷ []) 8
     ∷ []
 
@@ -92,8 +93,11 @@ nodeRecords =
     ∷ refused (inNode 2 10 (quad 1) little) 5 2
     ∷ refused (inNode 2 13 (128 ∷ []) little) 5 2
     ∷ refused (inNode 0 14 (quad 0) little) 5 0
-    -- 5 of a version: value kind 3, a name, begin = end, begin after end, end 36,526, a value without a kind, a negative text, an item number
+    -- 5 of a version: value kind 4, a nil with a value below 0 or of 1, a name, begin = end, begin after end, end 36,526, a value without a kind,
+    -- a negative text, an item number
+    ∷ refused (inNode 7 1 (4 ∷ []) little) 5 7
     ∷ refused (inNode 3 1 (3 ∷ []) little) 5 3
+    ∷ refused (inNode 7 10 (quad 1) (inNode 7 1 (3 ∷ []) little)) 5 7
     ∷ refused (inNode 3 2 (pair 256) little) 5 3
     ∷ refused (inNode 3 6 (pair 30) little) 5 3
     ∷ refused (inNode 3 6 (pair 31) little) 5 3
@@ -152,7 +156,7 @@ nodeTrees =
     ∷ refused (inNode 7 6 (pair 61) little) 10 0
     ∷ sliced (nodes (item 1 65535 1 ∷ bare 0 0 1 ∷ [])) 0 (1 ∷ []) 1
     -- all records ahead of 7: 5 at a high record, 7 at a low one; 8 likewise; then 7 ahead of 9, and 9 of 10
-    ∷ refused (inNode 7 1 (3 ∷ []) (inNode 4 6 (pair 29) little)) 5 7
+    ∷ refused (inNode 7 1 (4 ∷ []) (inNode 4 6 (pair 29) little)) 5 7
     ∷ refused (inNode 3 8 (pair 11) (nodes (deep ++ item 19 15 9 ∷ []))) 8 16
     ∷ refused (inNode 5 14 (quad 2) (inNode 6 8 (pair 31) little)) 7 6
     ∷ refused (inNode 5 14 (quad 2) (inNode 7 6 (pair 61) little)) 9 5

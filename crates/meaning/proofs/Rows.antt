@@ -24,12 +24,13 @@ pub record ItemRow (n : Node) : Type 0 where
 -- the column of a version
 pub record VersionRow (n : Node) : Type 0 where
   pub kind : n .kind ≡ 2
-  pub vkind : n .vkind ≤ 2
+  pub vkind : n .vkind ≤ 3
   pub name : n .name ≡ 0
   pub period : n .begin < n .end
   pub period-end : n .end ≤ 36525
   pub no-value : n .vkind ≡ 0 → n .value ≡ pos 0
   pub text : n .vkind ≡ 2 → pos 0 ≤ℤ n .value
+  pub nil : n .vkind ≡ 3 → n .value ≡ pos 0
   pub item : n .item ≡ 0
 
 -- a path of 1 to 8 names, in the first places and in no others

@@ -1,6 +1,6 @@
 -- A record passes the test of its table exactly where it is a row of it: 5 and 25.
 use mathlib.Core.Path.{_≡_, refl, sym}
-use mathlib.Core.Logic.{_↔_, _⊎_, ⊎-elim, ⊎-map}
+use mathlib.Core.Logic.{_↔_, _⊎_, inl, inr, ⊎-elim, ⊎-map}
 use mathlib.Core.Bool.{Bool, true, false, cond, false≢true}
 use Prim.Native.Nat.{ℕ, zero, suc, _≤_}
 use native.Mathlib.Omega.{arith}
@@ -29,12 +29,20 @@ item-row : (n : Node) → (itemFields n ≡ true) ↔ ItemRow n
 unfolding itemFields
 item-row n = (λ e. let w = simp says at e in search, λ r. simp says (search))
 
+-- of the value kinds 0 to 3 those that are neither number nor text
+outside : (k : ℕ) → k ≤ 3 → (k ≡ 1 → ⊥) → (k ≡ 2 → ⊥) → (k ≡ 0) ⊎ (k ≡ 3)
+outside zero h a b = inl refl
+outside (suc zero) h a b = absurd (a refl)
+outside (suc (suc zero)) h a b = absurd (b refl)
+outside (suc (suc (suc zero))) h a b = inr refl
+outside (suc (suc (suc (suc k)))) h a b = absurd (omega arith)
+
 version-row : (n : Node) → (versionFields n ≡ true) ↔ VersionRow n
 unfolding versionFields
 version-row n = (
   λ e. let w = simp says at e in
-      record { kind = omega arith; vkind = omega arith; name = omega arith; period = omega arith; period-end = omega arith; no-value = λ k. w .0 .0 .1 (omega arith); text = λ k. w .0 .1 (omega arith); item = omega arith },
-  λ r. simp says ((((((r .kind, r .vkind), r .name), (r .period, r .period-end)), λ k. r .no-value (omega arith)), λ k. r .text (omega arith)), r .item),
+      record { kind = omega arith; vkind = omega arith; name = omega arith; period = omega arith; period-end = omega arith; no-value = λ k. w .0 .0 .1 (λ h. omega arith, λ h. omega arith); text = λ k. w .0 .1 (omega arith); nil = λ k. w .0 .0 .1 (λ h. omega arith, λ h. omega arith); item = omega arith },
+  λ r. simp says ((((((r .kind, r .vkind), r .name), (r .period, r .period-end)), λ k. ⊎-elim (λ h. r .no-value h) (λ h. r .nil h) (outside (n .vkind) (r .vkind) (k .0) (k .1))), λ k. r .text (omega arith)), r .item),
 )
 
 -- THE NODE TABLE

@@ -13,7 +13,7 @@ use Rattle.meaning.specs.declared.Verdict.the-variants.{Holds, Fails}
 use Rattle.meaning.specs.Walk.{any, count, pick, first, onFound, found, place}
 use Rattle.meaning.specs.Document.{Doc, isVersion, above}
 use Rattle.meaning.specs.Nodes.{deepest}
-use Rattle.meaning.specs.Select.{fieldOf, reads, isNumber, within, present, gives, has}
+use Rattle.meaning.specs.Select.{fieldOf, reads, isNil, isNumber, within, present, gives, hasNil, has}
 
 -- version v's own period has day d: begin ≤ d < end
 unfoldable pub alive : Doc → ℕ → ℕ → Bool
@@ -48,7 +48,7 @@ module _ (doc : Doc) (p : ℕ → Bool) where
   taken r v = eqb (values r v) 1 && any (sharesOnly r v r) 0 v
 
   unfoldable pub key : Rule → ℕ → Bool
-  key r v = not (eqb (values r v) 1) || taken r v
+  key r v = not (eqb (values r v) 1) || hasNil doc p r v || taken r v
 
   unfoldable pub unique : Rule → ℕ → Bool
   unique r v = ltb 1 (values r v) || taken r v
@@ -60,8 +60,9 @@ module _ (doc : Doc) (p : ℕ → Bool) where
   unfoldable pub cardinality : Rule → ℕ → Bool
   cardinality r v = not (within r (pos (count (λ f. fieldOf doc r v f && p f) 0 (doc .size))))
 
+  -- a value that is neither a nil nor a number within the bounds
   unfoldable pub datatype : Rule → ℕ → Bool
-  datatype r v = any (λ f. gives doc p r v f && not (isNumber doc f && within r (doc .value f))) 0 (doc .size)
+  datatype r v = any (λ f. gives doc p r v f && not (isNil doc f || (isNumber doc f && within r (doc .value f)))) 0 (doc .size)
 
   -- by the rule's kind
   unfoldable pub breaks : Rule → Rule → ℕ → ℕ → Bool

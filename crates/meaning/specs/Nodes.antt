@@ -49,8 +49,8 @@ itemFields n =
 -- 5: the table's column for a version
 unfoldable pub versionFields : Node → Bool
 versionFields n =
-    eqb (n .kind) 2 && leb (n .vkind) 2 && eqb (n .name) 0 && isPeriod (n .begin) (n .end)
-    && (leb 1 (n .vkind) || eqZ (n .value) (pos 0)) && (leb (n .vkind) 1 || leZ (pos 0) (n .value)) && eqb (n .item) 0
+    eqb (n .kind) 2 && leb (n .vkind) 3 && eqb (n .name) 0 && isPeriod (n .begin) (n .end)
+    && (eqb (n .vkind) 1 || eqb (n .vkind) 2 || eqZ (n .value) (pos 0)) && (not (eqb (n .vkind) 2) || leZ (pos 0) (n .value)) && eqb (n .item) 0
 
 unfoldable pub nodeFields : Node → Bool
 nodeFields n = itemFields n || versionFields n

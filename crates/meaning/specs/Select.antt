@@ -1,6 +1,6 @@
 -- What a rule selects and reads, and what values are (MEANING 6). Nothing here speaks of days.
 use Prim.Native.Nat.{ℕ, zero, suc}
-use mathlib.Core.Bool.{Bool, false, _&&_, _||_, cond}
+use mathlib.Core.Bool.{Bool, false, _&&_, _||_, not, cond}
 use lib.IntN.{ℤ}
 use lib.Signed.{leZ}
 use lib.Dec.{ltb, eqb}
@@ -38,17 +38,21 @@ readsOwn doc r i = selected doc r i || any (λ v. fieldOf doc r v i && selected 
 unfoldable pub reads : Doc → Rule → Rule → ℕ → Bool
 reads doc q r i = readsOwn doc r i || (isReference r && readsOwn doc q i)
 
--- a version has a value
+-- a version has a value: a number, a text or a nil
 unfoldable pub valued : Doc → ℕ → Bool
 valued doc f = ltb 0 (doc .vkind f)
+
+-- its value is a nil, known to be unknown
+unfoldable pub isNil : Doc → ℕ → Bool
+isNil doc f = eqb (doc .vkind f) 3
 
 -- its value is a number
 unfoldable pub isNumber : Doc → ℕ → Bool
 isNumber doc f = eqb (doc .vkind f) 1
 
--- two values are equal if kind and number are
+-- two values are equal if kind and number are; a nil equals nothing, itself included
 unfoldable pub sameValue : Doc → ℕ → ℕ → Bool
-sameValue doc f g = eqb (doc .vkind f) (doc .vkind g) && eqZ (doc .value f) (doc .value g)
+sameValue doc f g = eqb (doc .vkind f) (doc .vkind g) && eqZ (doc .value f) (doc .value g) && not (isNil doc f)
 
 -- a number lies in the rule's min..max
 unfoldable pub within : Rule → ℤ → Bool
@@ -63,6 +67,10 @@ module _ (doc : Doc) (p : ℕ → Bool) where
   -- f is a present field version of v, with a value
   unfoldable pub gives : Rule → ℕ → ℕ → Bool
   gives r v f = fieldOf doc r v f && p f && valued doc f
+
+  -- a nil is one of the values of v
+  unfoldable pub hasNil : Rule → ℕ → Bool
+  hasNil r v = any (λ f. gives r v f && isNil doc f) 0 (doc .size)
 
   -- v has the value of f
   unfoldable pub has : Rule → ℕ → ℕ → Bool

@@ -15,7 +15,7 @@ use Rattle.meaning.specs.declared.Verdict.{Verdict}
 use Rattle.meaning.specs.declared.Verdict.the-variants.{Holds, Fails}
 use Rattle.meaning.specs.Walk.{any, count, first, onFound}
 use Rattle.meaning.specs.Document.{Doc, isVersion, numberOf}
-use Rattle.meaning.specs.Select.{sameValue, isNumber, within, present, gives, has}
+use Rattle.meaning.specs.Select.{sameValue, isNil, isNumber, within, present, gives, hasNil, has}
 
 -- the days from `from` up to, not including, `to`; `natural` is where it would end by its length alone
 pub record Window : Type 0 where
@@ -46,7 +46,7 @@ module _ (doc : Doc) (p : ℕ → Bool) where
   sharedIn r v = any (λ u. not (eqb (numberOf doc u) (numberOf doc v)) && shares r v r u) 0 v
 
   unfoldable pub keyIn : Rule → ℕ → Bool
-  keyIn r v = valueless r v || sharedIn r v
+  keyIn r v = valueless r v || hasNil doc p r v || sharedIn r v
 
   -- a value that no selected version of the referred rule has
   unfoldable pub referenceIn : Rule → Rule → ℕ → Bool
@@ -56,9 +56,9 @@ module _ (doc : Doc) (p : ℕ → Bool) where
   unfoldable pub under : Rule → ℕ → ℕ → Bool
   under r n f = any (λ v. present doc p r v && gives doc p r v f && eqb (numberOf doc v) n) 0 (doc .size)
 
-  -- what a window counts for item number n: valued field versions, or those whose value no lower one has
+  -- what a window counts for item number n: valued field versions, or those with no nil and with a value that no lower one has
   unfoldable pub counts : Rule → ℕ → ℕ → Bool
-  counts r n f = under r n f && not (eqb (r .distinct) 1 && any (λ g. sameValue doc f g && under r n g) 0 f)
+  counts r n f = under r n f && not (eqb (r .distinct) 1 && (isNil doc f || any (λ g. sameValue doc f g && under r n g) 0 f))
 
   -- too few, where window w is not shortened, or too many
   unfoldable pub cardinalityIn : Window → Rule → ℕ → Bool
@@ -66,19 +66,20 @@ module _ (doc : Doc) (p : ℕ → Bool) where
       let n = pos (count (counts r (numberOf doc v)) 0 (doc .size)) in
       not ((shortened w || leZ (r .low) n) && leZ n (r .high))
 
-  -- g ends by the begin of f, both numbers under item number n, and nothing valued under n lies wholly between
+  -- g ends by the begin of f, both numbers under item number n, and nothing valued under n, but nils, lies wholly between
   unfoldable pub follows : Rule → ℕ → ℕ → ℕ → Bool
   follows r n g f =
       isNumber doc g && leb (doc .end g) (doc .begin f) && under r n g
-      && not (any (λ h. leb (doc .end g) (doc .begin h) && leb (doc .end h) (doc .begin f) && under r n h) 0 (doc .size))
+      && not (any (λ h. leb (doc .end g) (doc .begin h) && leb (doc .end h) (doc .begin f) && under r n h && not (isNil doc h)) 0 (doc .size))
 
   -- the step from g to f is exact, and outside the bounds
   unfoldable pub jumps : Rule → ℕ → ℕ → ℕ → Bool
   jumps r n f g = not (within r (doc .value f -ℤ doc .value g)) && follows r n g f
 
-  -- field version f, of a selected version v, both present, is no number, or follows one from which it differs too much
+  -- field version f, of a selected version v, both present, is no nil, and it is no number, or follows one from which it differs too much
   unfoldable pub datatypeIn : Rule → ℕ → ℕ → Bool
-  datatypeIn r f v = present doc p r v && gives doc p r v f && (not (isNumber doc f) || any (jumps r (numberOf doc v) f) 0 (doc .size))
+  datatypeIn r f v =
+      present doc p r v && gives doc p r v f && not (isNil doc f) && (not (isNumber doc f) || any (jumps r (numberOf doc v) f) 0 (doc .size))
 
   -- by the rule's kind: a selected version offends, for a datatype a field version
   unfoldable pub breaksIn : Window → Rule → Rule → ℕ → ℕ → Bool
