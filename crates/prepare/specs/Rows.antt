@@ -1,13 +1,14 @@
 -- A rule prepared: its selected versions one after the other, and with each the chain of the field versions that matter to its kind.
 use mathlib.Core.Path.{_≡_}
-use mathlib.Core.Bool.{Bool, true, _&&_, not, cond}
+use mathlib.Core.Bool.{Bool, true, _&&_, _||_, not, cond}
 use mathlib.Core.List.{List}
 use Prim.Native.Nat.{ℕ, zero, suc, _≤_, _<_}
+use lib.Dec.{eqb, leb}
 use lib.ListN.{length, getD}
 use Rattle.meaning.specs.declared.Rule.{Rule}
 use Rattle.meaning.specs.Document.{Doc}
 use Rattle.meaning.specs.Rules.{isSequenced}
-use Rattle.meaning.specs.Select.{selected, fieldOf, valued, isNumber, within}
+use Rattle.meaning.specs.Select.{selected, fieldOf, valued, isNil, isNumber, within}
 use Rattle.columns.specs.Chains.{pastLast}
 use Rattle.prepare.specs.Holders.{Skips}
 
@@ -18,11 +19,15 @@ wantsBy doc r f (suc zero) = valued doc f
 wantsBy doc r f (suc (suc zero)) = valued doc f
 wantsBy doc r f (suc (suc (suc zero))) = valued doc f
 wantsBy doc r f (suc (suc (suc (suc zero)))) = true
-wantsBy doc r f (suc (suc (suc (suc (suc k))))) = valued doc f && not (isNumber doc f && within r (doc .value f))
+wantsBy doc r f (suc (suc (suc (suc (suc k))))) = valued doc f && not (isNil doc f || (isNumber doc f && within r (doc .value f)))
 
--- and in a window the valued ones, whatever the kind
+-- in a window a datatype passes over nils, and so does a cardinality that counts values
+unfoldable pub overNils : Rule → Bool
+overNils r = leb 5 (r .kind) || (eqb (r .kind) 4 && eqb (r .distinct) 1)
+
+-- there the valued ones matter, but for nils that are passed over
 unfoldable pub wants : Doc → Rule → ℕ → Bool
-wants doc r f = cond (isSequenced r) (wantsBy doc r f (r .kind)) (valued doc f)
+wants doc r f = cond (isSequenced r) (wantsBy doc r f (r .kind)) (valued doc f && not (overNils r && isNil doc f))
 
 -- f is a wanted field version of v, which is selected
 unfoldable pub inRow : Doc → Rule → ℕ → ℕ → Bool

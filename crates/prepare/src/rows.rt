@@ -18,7 +18,7 @@ ghost use Rattle.columns.specs.Lent.{Lends, Values};
 ghost use Rattle.columns.specs.Judgeable.{Judgeable};
 ghost use Rattle.marks.specs.Marks.{Marks};
 ghost use Rattle.prepare.specs.Holders.{Holders, Skips};
-ghost use Rattle.prepare.specs.Rows.{wants, inRow};
+ghost use Rattle.prepare.specs.Rows.{overNils, wants, inRow};
 ghost use Rattle.prepare.specs.Keys.{Keys, Linked};
 
 // The way along some records: where it starts, and from each record the next one; the number of records ends it.
@@ -27,18 +27,28 @@ pub struct Way {
     pub next: [u16; LIMIT],
 }
 
+// Whether the rule passes over nils in windows. Cost: three tests.
+fn over_nils(rule: Rule) -> bool
+    ensures { λ r. ⌜ r ≡ overNils rule ⌝ }
+{
+    (5 <= rule.kind) | ((rule.kind == 4) & (rule.distinct == 1))
+}
+
 // Whether a field version with this value matters to the rule. Cost: a fixed number of tests.
 pub fn wanted(vkind: u8, value: i32, rule: Rule) -> bool
     ensures { λ r. ⌜ ((doc : Doc) (f : ℕ) → doc .vkind f ≡ vkind → doc .value f ≡ value → r ≡ wants doc rule f) ⌝ }
 {
     if (rule.windowed != 0) | (rule.kind <= 3) {
+        if vkind == 3 {
+            return !over_nils(rule);
+        }
         return 0 < vkind;
     }
     if rule.kind == 4 {
         return true;
     }
     let fits = numbers::in_range(value, rule.low, rule.high);
-    (0 < vkind) & !((vkind == 1) & fits)
+    (0 < vkind) & !((vkind == 3) | ((vkind == 1) & fits))
 }
 
 // The key of record f, of n: its holder where that is selected and f is wanted, else LIMIT, which has no chain. Cost: two looks.

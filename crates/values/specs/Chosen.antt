@@ -1,6 +1,6 @@
 -- What the pass over the versions works out: for each the lowest version of an equal value, found along chains of versions that share a key.
 use mathlib.Core.Path.{_≡_}
-use mathlib.Core.Bool.{Bool, true, _&&_}
+use mathlib.Core.Bool.{Bool, true, _&&_, _||_}
 use mathlib.Core.List.{List, []}
 use Prim.Native.Nat.{ℕ, _≤_, _<_}
 use lib.IntN.{ℤ}
@@ -23,11 +23,11 @@ pub record Even (kinds vkinds : List ℕ) (values : List ℤ) : Type 0 where
 abbrev pub held : List ℕ → List ℕ → List ℤ → Doc
 held kinds vkinds values = columns kinds vkinds [] [] [] [] values [] []
 
--- g is a version with the value of f
+-- g is a version with the value of f, or f itself, which a nil is like alone
 abbrev pub alike : Doc → ℕ → ℕ → Bool
-alike doc f g = isVersion doc g && sameValue doc f g
+alike doc f g = isVersion doc g && (sameValue doc f g || eqb f g)
 
--- x is no higher than f; for a version f it is the lowest version with the value of f
+-- x is no higher than f; for a version f it is the lowest version like f
 pub record Chosen (doc : Doc) (f x : ℕ) : Type 0 where
   pub low : x ≤ f
   pub least : isVersion doc f ≡ true → first (alike doc f) 0 (doc .size) ≡ At x

@@ -7,7 +7,7 @@ ghost use mathlib.Core.Path.{_≡_};
 ghost use mathlib.Core.List.{[], map};
 ghost use Prim.Native.Nat.{_<_, _≤_, _%_};
 ghost use lib.Signed.{mag};
-ghost use lib.ListN.{length};
+ghost use lib.ListN.{length, getD};
 ghost use Rattle.meaning.specs.Document.{Doc};
 ghost use Rattle.meaning.specs.Select.{sameValue};
 ghost use Rattle.meaning.specs.Block.{limit};
@@ -16,9 +16,9 @@ ghost use Rattle.columns.specs.Lent.{Values};
 ghost use Rattle.values.specs.Represents.{Represents};
 ghost use Rattle.values.specs.Chosen.{Even, held, Chosen, ChosenBelow, ByValue};
 
-// Whether records f and g have equal values.
+// Whether records f, which is no nil, and g have equal values.
 fn same_value(vkind: &[u8], value: &[i32], f: usize, g: usize) -> bool
-    requires { ⌜ (length (now value) ≡ length (now vkind)) × (f < length (now vkind)) × (g < length (now vkind)) ⌝ }
+    requires { ⌜ (length (now value) ≡ length (now vkind)) × (f < length (now vkind)) × (g < length (now vkind)) × (getD (now vkind) f 0 ≡ 3 → ⊥) ⌝ }
     ensures { λ r. ⌜ r ≡ sameValue (held [] (now (vkind .entry)) (now (value .entry))) f g ⌝ }
 {
     (vkind[f] == vkind[g]) & numbers::same(value[f], value[g])
@@ -46,7 +46,7 @@ fn keys(value: &[i32]) -> [u16; LIMIT]
 }
 
 // The representative of record f, given those of the records below it: for a version that of a lower one with its value, or f itself where
-// there is none; 0 for any other record. A look for each lower version of its key, down to the first with its value.
+// there is none, as for a nil; 0 for any other record. A look for each lower version of its key, down to the first with its value.
 fn representative(
     kind: &[u8],
     vkind: &[u8],
@@ -60,6 +60,9 @@ fn representative(
 {
     if kind[f] != 2 {
         return 0;
+    }
+    if vkind[f] == 3 {
+        return f as u16;
     }
     let mut past_g = index(lower[f]);
     while 0 < past_g {

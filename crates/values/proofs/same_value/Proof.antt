@@ -1,4 +1,4 @@
--- `values::same_value` meets its contract: two values are equal if kind and number are.
+-- `values::same_value` meets its contract: a value that is no nil equals another if kind and number do.
 use mathlib.Core.List.{[]}
 use borrow.Author.Needs.{needs}
 use Rattle.numbers.proofs.Callers.{signs}
@@ -35,7 +35,7 @@ entry c = c .before .before .before .before .before .before
 returns : tie.Need-returns
 returns c =
     let a = entry c .args in
-    compared (held [] (a .vkind .now) (a .value .now)) (a .f) (a .g) _ (search (needs, signs))
+    compared (held [] (a .vkind .now) (a .value .now)) (a .f) (a .g) _ (search (needs, signs)) (entry c .pre .3)
 
 pub same-value-spec : {M : Type 1} → statement M
 same-value-spec =
