@@ -1,25 +1,25 @@
 -- From a rule prepared over an accepted document to the offender of a day: its rows are ready, and who offends among the versions alive offends on the day.
-use mathlib.Core.Path.{_≡_, sym, ap, fun-ext}
+use mathlib.Core.Path.{_≡_, sym, fun-ext}
 use mathlib.Core.Logic.{⊎-elim}
-use mathlib.Core.Bool.{Bool, true}
+use mathlib.Core.Bool.{true}
 use mathlib.Core.List.{List}
 use Prim.Native.Nat.{ℕ, _≤_}
 use native.Mathlib.Omega.{arith}
 use lib.ListN.{getD, replicate, length-replicate, getD-replicate, List·getD-eq-default}
 use borrow.Author.Tests.{ne-eqb}
 use Rattle.meaning.specs.Block.{limit}
+use Rattle.meaning.specs.declared.Found.{Found}
 use Rattle.meaning.specs.declared.Rule.{Rule}
-use Rattle.meaning.specs.Walk.{first}
 use Rattle.meaning.specs.Document.{Doc}
 use Rattle.meaning.specs.Rules.{isSequenced}
-use Rattle.meaning.specs.Day.{offends, offender}
+use Rattle.meaning.specs.Day.{alive, presentOn}
 use Rattle.meaning.proofs.Basics.{le-or-lt}
 use Rattle.columns.specs.Lent.{Periods}
 use Rattle.values.specs.Represents.{Represents}
 use Rattle.prepare.specs.declared.Prepared.{Prepared}
 use Rattle.prepare.specs.Rowed.{Rowed}
 use Rattle.day.specs.Ready.{Ready, Terms, Clear}
-use Rattle.day.specs.Settled.{Posed, offenderAlive, Settled}
+use Rattle.day.specs.Settled.{Posed, AsideOn, Settled}
 
 -- fresh marks are all clear
 pub zeros : (n x : ℕ) → _≡_ {A = ℕ} (getD (replicate n 0) x 0) 0
@@ -50,6 +50,5 @@ module _ {doc : Doc} {q r : Rule} {own held : Prepared} {begins ends reps : List
       }
 
   -- who offends among the versions alive offends on the day
-  pub same-offender : (d : ℕ) → offenderAlive doc q r d ≡ offender doc q r d
-  unfolding offender
-  same-offender d = ap (λ (p : ℕ → Bool). first (offends doc p q r) 0 (doc .size)) (fun-ext (λ v. sym (s .judgeable .present d v)))
+  pub present-aside : {x : Found} (d : ℕ) → AsideOn doc (alive doc d) q r x → AsideOn doc (presentOn doc d) q r x
+  present-aside {x} d a = let same : alive doc d ≡ presentOn doc d = fun-ext (λ v. sym (s .judgeable .present d v)) in rw same at a

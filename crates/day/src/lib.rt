@@ -1,4 +1,4 @@
-// The lowest offender of one day, for a sequenced rule of any kind.
+// The lowest offender of one day, for a sequenced rule of any kind; that a nil spoils a key and a reference is left aside here.
 use columns::LIMIT;
 use meaning::Found;
 use meaning::Rule;
@@ -15,13 +15,13 @@ ghost use Rattle.meaning.specs.Document.{Doc};
 ghost use Rattle.meaning.specs.Block.{limit};
 ghost use Rattle.meaning.specs.Rules.{isSequenced, ruleFields};
 ghost use Rattle.meaning.specs.Select.{selected};
-ghost use Rattle.meaning.specs.Day.{offender};
+ghost use Rattle.meaning.specs.Day.{alive, presentOn};
 ghost use Rattle.marks.specs.Marks.{marked};
 ghost use Rattle.prepare.specs.Rows.{inRow};
 ghost use Rattle.day.specs.Ready.{Ready, Clear};
 ghost use Rattle.day.specs.Row.{lasts};
 ghost use Rattle.day.specs.Table.{holder, rowOffends};
-ghost use Rattle.day.specs.Settled.{Posed, offenderAlive, Settled};
+ghost use Rattle.day.specs.Settled.{Posed, AsideOn, Settled};
 
 mod row; // row.rt: one row of a rule on a day
 pub mod terms; // terms.rt: how a rule of each kind counts
@@ -83,7 +83,7 @@ fn first_row(
     Found::Nothing
 }
 
-// The lowest offender of day d among the rows of a prepared rule, no value being marked before.
+// The lowest offender of day d among the rows of a prepared rule, nils aside, no value being marked before.
 // Cost: a look for each selected version and each of its wanted field versions, of this rule and of the one that it refers to.
 fn offender_on(
     start: usize,
@@ -104,7 +104,7 @@ fn offender_on(
     seen: &mut [u8],
 ) -> Found
     requires { ⌜ ((doc : Doc) × (r : Rule) × (p : Rule) × Ready doc r start (now next) (now last) (now lower) (now begin) (now end) (now rep) × Ready doc p «held_start» (now «held_next») (now «held_last») (now «held_lower») (now begin) (now end) (now rep) × Clear (doc .size) (now seen)) ⌝ }
-    ensures { λ x. ⌜ ((doc : Doc) → (q r : Rule) → Posed doc q r start (now (next .entry)) (now (last .entry)) (now (lower .entry)) «held_start» (now («held_next» .entry)) (now («held_last» .entry)) (now («held_lower» .entry)) (now (begin .entry)) (now (end .entry)) (now (rep .entry)) mode low high → x ≡ offenderAlive doc q r d) ⌝ }
+    ensures { λ x. ⌜ ((doc : Doc) → (q r : Rule) → Posed doc q r start (now (next .entry)) (now (last .entry)) (now (lower .entry)) «held_start» (now («held_next» .entry)) (now («held_last» .entry)) (now («held_lower» .entry)) (now (begin .entry)) (now (end .entry)) (now (rep .entry)) mode low high → AsideOn doc (alive doc d) q r x) ⌝ }
 {
     if mode == REFERRING {
         mark_rows(
@@ -155,7 +155,7 @@ fn look<'a>(
     high: usize,
 ) -> Found
     requires { ⌜ ((doc : Doc) × (r : Rule) × (p : Rule) × Ready doc r start (now next) (now last) (now lower) (now begin) (now end) (now rep) × Ready doc p «held_start» (now «held_next») (now «held_last») (now «held_lower») (now begin) (now end) (now rep) × (doc .size ≤ limit)) ⌝ }
-    ensures { λ x. ⌜ ((doc : Doc) → (q r : Rule) → Posed doc q r start (now (next .entry)) (now (last .entry)) (now (lower .entry)) «held_start» (now («held_next» .entry)) (now («held_last» .entry)) (now («held_lower» .entry)) (now (begin .entry)) (now (end .entry)) (now (rep .entry)) mode low high → x ≡ offenderAlive doc q r d) ⌝ }
+    ensures { λ x. ⌜ ((doc : Doc) → (q r : Rule) → Posed doc q r start (now (next .entry)) (now (last .entry)) (now (lower .entry)) «held_start» (now («held_next» .entry)) (now («held_last» .entry)) (now («held_lower» .entry)) (now (begin .entry)) (now (end .entry)) (now (rep .entry)) mode low high → AsideOn doc (alive doc d) q r x) ⌝ }
 {
     let mut seen = [0u8; LIMIT];
     offender_on(
@@ -178,7 +178,7 @@ fn look<'a>(
     )
 }
 
-// The lowest offender of a prepared sequenced rule at a place, which is a day. Cost: that of the look.
+// The lowest offender of a prepared sequenced rule at a place, which is a day, nils aside. Cost: that of the look.
 pub fn offender_at(
     own: Prepared,
     held: Prepared,
@@ -189,7 +189,7 @@ pub fn offender_at(
     here: Place,
 ) -> Found
     requires { ⌜ (ruleFields r ≡ true) × ((doc : Doc) × (q : Rule) × Settled doc q r own held (now begin) (now end) (now rep)) ⌝ }
-    ensures { λ x. ⌜ ((doc : Doc) → (q : Rule) → Settled doc q r own held (now (begin .entry)) (now (end .entry)) (now (rep .entry)) → isSequenced r ≡ true → x ≡ offender doc q r (here .from)) ⌝ }
+    ensures { λ x. ⌜ ((doc : Doc) → (q : Rule) → Settled doc q r own held (now (begin .entry)) (now (end .entry)) (now (rep .entry)) → isSequenced r ≡ true → AsideOn doc (presentOn doc (here .from)) q r x) ⌝ }
 {
     let bounds = terms::terms(r);
     look(

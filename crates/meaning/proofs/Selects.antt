@@ -1,5 +1,5 @@
 -- What a rule selects and reads: every selected or read record is a version of the document.
-use mathlib.Core.Path.{_≡_}
+use mathlib.Core.Path.{_≡_, sym, _∙_}
 use mathlib.Core.Logic.{⊎-elim, _⊎_}
 use mathlib.Core.Bool.{Bool, true, _&&_}
 use Prim.Native.Nat.{ℕ, _<_}
@@ -39,6 +39,16 @@ module _ (doc : Doc) (r : Rule) where
       ⊎-elim
       (λ z. rw (eqb-true f v (rw z at e)) (selected-version v s))
       (λ z. and-l a b (and-l (a && b) c (rw z at e)))
+      (went (eqb (r .field) 0))
+
+  -- a field version belongs to one version only
+  pub one-holder : (u v f : ℕ) → fieldOf doc r u f ≡ true → fieldOf doc r v f ≡ true → u ≡ v
+  unfolding fieldOf
+  one-holder u v f a b =
+      let m = isVersion doc f && eqb (doc .name (doc .parent f)) (r .field) in
+      ⊎-elim
+      (λ z. sym (eqb-true f u (rw z at a)) ∙ eqb-true f v (rw z at b))
+      (λ z. sym (eqb-true (above doc f) u (and-r m (eqb (above doc f) u) (rw z at a))) ∙ eqb-true (above doc f) v (and-r m (eqb (above doc f) v) (rw z at b)))
       (went (eqb (r .field) 0))
 
   -- a selected version is read, and so is each field version of one

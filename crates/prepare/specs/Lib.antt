@@ -6,3 +6,4 @@ pub mod Descent
 pub mod Rowed
 pub mod Sifts
 pub mod Acting
+pub mod Spoiling

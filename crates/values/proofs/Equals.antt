@@ -1,12 +1,12 @@
 -- Equal values have one lowest version, so two versions have equal values exactly where these are one.
 use mathlib.Core.Path.{_≡_, refl, sym, ap, _∙_}
 use mathlib.Core.Logic.{⊎-elim}
-use mathlib.Core.Bool.{Bool, true, false, _&&_, _||_, and-true}
+use mathlib.Core.Bool.{Bool, true, false, _&&_, _||_, and-true, and-false}
 use mathlib.Core.List.{List}
 use Prim.Native.Nat.{ℕ, _+_, _≤_, _<_}
 use native.Mathlib.Omega.{arith}
 use borrow.Author.Count.{below-more}
-use borrow.Author.Tests.{eqb-true, eq-eqb, ne-eqb}
+use borrow.Author.Tests.{eqb-true, eqb-false, eq-eqb, ne-eqb}
 use lib.IntN.{ℤ}
 use lib.Dec.{eqb}
 use lib.ListN.{length, getD, set}
@@ -138,3 +138,19 @@ module _ (doc : Doc) (kinds vkinds : List ℕ) (values : List ℤ) (v : Values d
         kind = λ f a.
             sym (v .vkind .at (getD reps f 0)) ∙ lowest-kind (held kinds vkinds values) f (getD reps f 0) (turn f a) (s .each f (here f a)) ∙ v .vkind .at f;
       }
+
+-- Whose value is no nil is represented as all are whose value is equal, itself included; a nil equals nothing.
+module _ {doc : Doc} {reps : List ℕ} (represents : Represents doc reps) where
+  pub known-same : (f g : ℕ) → isVersion doc f ≡ true → isVersion doc g ≡ true → isNil doc f ≡ false → sameValue doc f g ≡ eqb (getD reps f 0) (getD reps g 0)
+  known-same f g a b n =
+      ⊎-elim
+      (λ e. let u = eqb-true f g e in rw (← u) (agreeing doc f f refl refl n ∙ sym (eq-eqb (getD reps f 0) (getD reps f 0) refl)))
+      (λ e. represents .same f g a b (eqb-false f g e))
+      (went (eqb f g))
+
+  pub rep-nil : (f : ℕ) → isVersion doc f ≡ true → isNil doc (getD reps f 0) ≡ isNil doc f
+  rep-nil f a = nil-kind doc (getD reps f 0) f (represents .kind f a)
+
+pub nil-unlike : (doc : Doc) (f g : ℕ) → isNil doc f ≡ true → sameValue doc f g ≡ false
+unfolding sameValue
+nil-unlike doc f g n = rw n (and-false (eqb (doc .vkind f) (doc .vkind g) && eqZ (doc .value f) (doc .value g)))

@@ -1,7 +1,7 @@
 -- `day::offender_at` meets its contract: who offends among the versions alive offends on the day.
 use mathlib.Core.Path.{_∙_}
 use borrow.Author.Needs.{needs}
-use Rattle.day.proofs.Settling.{ready, posed, same-offender}
+use Rattle.day.proofs.Settling.{ready, posed, present-aside}
 use Rattle.day.proofs.offender_at.Statement.{statement}
 use Rattle.day.proofs.offender_at.Tie as tie
 
@@ -26,7 +26,7 @@ returns : tie.Need-returns
 returns c =
     let there = after-terms (c .before) in
     λ doc q s k.
-    c .look .ensures doc q _ (posed s k (there .terms .ensures)) ∙ same-offender s (entry there .args .here .from)
+    present-aside s (entry there .args .here .from) (c .look .ensures doc q _ (posed s k (there .terms .ensures)))
 
 pub offender-at-spec : {M : Type 1} → statement M
 offender-at-spec = tie.close (tie.spec terms-requires look-requires returns)

@@ -34,8 +34,8 @@ returns : tie.Need-returns
 returns c =
     let found = c .before .before .first-row .ensures in
     ⊎-elim
-    (λ w doc q r s. found doc r (s .ready) ∙ answers-referring _ _ _ _ _ _ _ _ _ _ _ _ _ _ _ (w .0 .taken) _ _ (w .5) (w .2 .ensures) doc q r s)
-    (λ w doc q r s. found doc r (s .ready) ∙ answers-fresh _ _ _ _ _ _ _ _ _ _ _ _ _ _ _ (w .0 .left) _ _ (w .1) (entry (joined1 c) .pre .5 .none) doc q r s)
+    (λ w doc q r s. answers-referring _ _ _ _ _ _ _ _ _ _ _ _ _ _ _ (w .0 .taken) _ _ (w .5) (w .2 .ensures) doc q r s _ (found doc r (s .ready)))
+    (λ w doc q r s. answers-fresh _ _ _ _ _ _ _ _ _ _ _ _ _ _ _ (w .0 .left) _ _ (w .1) (entry (joined1 c) .pre .5 .none) doc q r s _ (found doc r (s .ready)))
     (joined1 c .if1 .came)
 
 pub offender-on-spec : {M : Type 1} → statement M
