@@ -23,10 +23,10 @@ use Rattle.columns.specs.Lent.{Periods}
 use Rattle.marks.specs.Marks.{marked}
 use Rattle.values.specs.Represents.{Represents}
 use Rattle.values.proofs.Equals.{known-same, nil-unlike}
-use Rattle.prepare.specs.Spoiling.{spoils}
+use Rattle.prepare.specs.Spoiling.{spoils, AsideOn}
 use Rattle.prepare.specs.Rows.{wantsBy, wants, inRow}
 use Rattle.day.specs.Ready.{counted, distinct, referring, TermsBy, Terms, Ready}
-use Rattle.day.specs.Settled.{Posed, AsideOn}
+use Rattle.day.specs.Settled.{Posed}
 use Rattle.day.specs.Row.{lasts, number, only, outside, wrong, keeps, rowBreaks}
 use Rattle.day.specs.Table.{holder, seenBelow, rowOffends}
 use Rattle.day.proofs.Single.{One, one, any-count, eqb-sym, outside-one, outside-most, outside-within}

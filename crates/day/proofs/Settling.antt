@@ -18,8 +18,9 @@ use Rattle.columns.specs.Lent.{Periods}
 use Rattle.values.specs.Represents.{Represents}
 use Rattle.prepare.specs.declared.Prepared.{Prepared}
 use Rattle.prepare.specs.Rowed.{Rowed}
+use Rattle.prepare.specs.Spoiling.{AsideOn}
 use Rattle.day.specs.Ready.{Ready, Terms, Clear}
-use Rattle.day.specs.Settled.{Posed, AsideOn, Settled}
+use Rattle.day.specs.Settled.{Posed, Settled}
 
 -- fresh marks are all clear
 pub zeros : (n x : ℕ) → _≡_ {A = ℕ} (getD (replicate n 0) x 0) 0

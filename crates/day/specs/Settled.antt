@@ -1,12 +1,10 @@
 -- What the offender of a sequenced rule is asked over: the rule, and the one that it refers to, prepared over an accepted document.
 use mathlib.Core.Path.{_≡_}
-use mathlib.Core.Bool.{Bool, true}
+use mathlib.Core.Bool.{true}
 use mathlib.Core.List.{List}
 use Prim.Native.Nat.{ℕ}
-use Rattle.meaning.specs.declared.Found.{Found}
 use Rattle.meaning.specs.declared.Rule.{Rule}
 use Rattle.meaning.specs.Document.{Doc}
-use Rattle.meaning.specs.Day.{offends}
 use Rattle.meaning.specs.Rules.{isReference, isSequenced}
 use Rattle.meaning.specs.Select.{valued}
 use Rattle.columns.specs.Lent.{Periods}
@@ -15,7 +13,6 @@ use Rattle.values.specs.Represents.{Represents}
 use Rattle.prepare.specs.declared.Prepared.{Prepared}
 use Rattle.prepare.specs.Rows.{wants}
 use Rattle.prepare.specs.Rowed.{Rowed}
-use Rattle.prepare.specs.Spoiling.{Aside}
 use Rattle.day.specs.Ready.{Ready, Referred, Terms}
 
 -- a sequenced rule r that refers to q, prepared, with its mode and bounds
@@ -24,10 +21,6 @@ pub record Posed (doc : Doc) (q r : Rule) (start : ℕ) (next last lower : List 
   pub referred : isReference r ≡ true → Referred doc q held-start held-next held-last held-lower begins ends reps
   pub sequenced : isSequenced r ≡ true
   pub terms : Terms r mode low high
-
--- x is the lowest offender as on a day, presence being p, if versions that a nil spoils are left aside
-abbrev pub AsideOn : Doc → (ℕ → Bool) → Rule → Rule → Found → Type 0
-AsideOn doc p q r x = Aside doc p r (offends doc p q r) x
 
 -- rule r, which refers to q if it is a reference, and the rule that it refers to, or another one, prepared over an accepted document
 pub record Settled (doc : Doc) (q r : Rule) (own held : Prepared) (begins ends reps : List ℕ) : Type 0 where

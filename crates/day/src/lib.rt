@@ -18,10 +18,11 @@ ghost use Rattle.meaning.specs.Select.{selected};
 ghost use Rattle.meaning.specs.Day.{alive, presentOn};
 ghost use Rattle.marks.specs.Marks.{marked};
 ghost use Rattle.prepare.specs.Rows.{inRow};
+ghost use Rattle.prepare.specs.Spoiling.{AsideOn};
 ghost use Rattle.day.specs.Ready.{Ready, Clear};
 ghost use Rattle.day.specs.Row.{lasts};
 ghost use Rattle.day.specs.Table.{holder, rowOffends};
-ghost use Rattle.day.specs.Settled.{Posed, AsideOn, Settled};
+ghost use Rattle.day.specs.Settled.{Posed, Settled};
 
 mod row; // row.rt: one row of a rule on a day
 pub mod terms; // terms.rt: how a rule of each kind counts

@@ -47,6 +47,11 @@ module _ (doc : Doc) (p p′ : ℕ → Bool) where
     present-gives : (v f : ℕ) → present doc p r v && gives doc p r v f ≡ (present doc p′ r v && gives doc p′ r v f)
     present-gives v f = behind v (gives doc p r v f) (gives doc p′ r v f) (λ s. ap (λ (h : ℕ → Bool). h f) (gives-same v s))
 
+    -- a version that is present, and has a nil
+    pub nil-agree : (v : ℕ) → present doc p r v && hasNil doc p r v ≡ (present doc p′ r v && hasNil doc p′ r v)
+    unfolding hasNil
+    nil-agree v = behind v _ _ (λ s. ap (λ (h : ℕ → Bool). any (λ f. h f && isNil doc f) 0 (doc .size)) (gives-same v s))
+
     under-same : under doc p r ≡ under doc p′ r
     unfolding under
     under-same =

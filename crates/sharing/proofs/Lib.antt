@@ -7,3 +7,4 @@ pub mod Meeting
 pub mod Passing
 pub mod Walking
 pub mod Offence
+pub mod Known

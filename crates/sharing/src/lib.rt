@@ -1,4 +1,4 @@
-// The lowest offender of one window, for a non-sequenced key, unique or reference rule.
+// The lowest offender of one window, for a non-sequenced key, unique or reference rule, nils aside; and the lowest version that has a nil.
 use columns::LIMIT;
 use meaning::Found;
 use numbers::index;
@@ -12,18 +12,20 @@ ghost use Rattle.meaning.specs.Walk.{any, first};
 ghost use Rattle.meaning.specs.Document.{Doc};
 ghost use Rattle.meaning.specs.Rules.{isSequenced};
 ghost use Rattle.meaning.specs.Select.{selected};
-ghost use Rattle.meaning.specs.Window.{Window, meets, offendsIn};
+ghost use Rattle.meaning.specs.Window.{Window};
 ghost use Rattle.meaning.specs.Block.{limit};
 ghost use Rattle.marks.specs.Marks.{marked};
 ghost use Rattle.prepare.specs.Rows.{inRow};
+ghost use Rattle.prepare.specs.Spoiling.{AsideIn};
 ghost use Rattle.day.specs.Ready.{Ready, Referred, Clear};
 ghost use Rattle.groups.specs.Groups.{Groups};
 ghost use Rattle.sharing.specs.Row.{during, Unowned};
 ghost use Rattle.sharing.specs.Table.{holder, rowMisses};
 
+pub mod nils; // nils.rt: the lowest version with a nil
 mod row; // row.rt: one row of a rule in a window
 
-// The lowest version that offends a key, which needs a value, or a unique rule in the window from..to; `owner` has for each value the class of
+// The lowest version that offends a key, which needs a value, or a unique rule in the window from..to, nils aside; `owner` has for each value the class of
 // its holders met, counted from one, and none before.
 // Cost: a look for each selected version, and one for each field version with a value of one that is present.
 fn first_shared(
@@ -41,7 +43,7 @@ fn first_shared(
     owner: &mut [u16],
 ) -> Found
     requires { ⌜ ((doc : Doc) × (r : Rule) × Ready doc r start (now next) (now last) (now lower) (now begin) (now end) (now rep) × Groups doc (now group) × (doc .size ≤ limit) × Unowned (doc .size) (now owner)) ⌝ }
-    ensures { λ x. ⌜ ((doc : Doc) → (q r : Rule) → (w : Window) → Ready doc r start (now (next .entry)) (now (last .entry)) (now (lower .entry)) (now (begin .entry)) (now (end .entry)) (now (rep .entry)) → Groups doc (now (group .entry)) → isSequenced r ≡ false → w .from ≡ from → w .to ≡ to → (((r .kind ≡ 1) × (needy ≡ true)) ⊎ ((r .kind ≡ 2) × (needy ≡ false))) → x ≡ first (offendsIn doc (meets doc w) w q r) 0 (doc .size)) ⌝ }
+    ensures { λ x. ⌜ ((doc : Doc) → (q r : Rule) → (w : Window) → Ready doc r start (now (next .entry)) (now (last .entry)) (now (lower .entry)) (now (begin .entry)) (now (end .entry)) (now (rep .entry)) → Groups doc (now (group .entry)) → isSequenced r ≡ false → w .from ≡ from → w .to ≡ to → (((r .kind ≡ 1) × (needy ≡ true)) ⊎ ((r .kind ≡ 2) × (needy ≡ false))) → AsideIn doc w q r x) ⌝ }
 {
     let mut v = start;
     while v < begin.len() {
@@ -80,7 +82,7 @@ pub fn shared_in<'a>(
     to: usize,
 ) -> Found
     requires { ⌜ ((doc : Doc) × (r : Rule) × Ready doc r start (now next) (now last) (now lower) (now begin) (now end) (now rep) × Groups doc (now group) × (doc .size ≤ limit)) ⌝ }
-    ensures { λ x. ⌜ ((doc : Doc) → (q r : Rule) → (w : Window) → Ready doc r start (now (next .entry)) (now (last .entry)) (now (lower .entry)) (now (begin .entry)) (now (end .entry)) (now (rep .entry)) → Groups doc (now (group .entry)) → isSequenced r ≡ false → w .from ≡ from → w .to ≡ to → (((r .kind ≡ 1) × (needy ≡ true)) ⊎ ((r .kind ≡ 2) × (needy ≡ false))) → x ≡ first (offendsIn doc (meets doc w) w q r) 0 (doc .size)) ⌝ }
+    ensures { λ x. ⌜ ((doc : Doc) → (q r : Rule) → (w : Window) → Ready doc r start (now (next .entry)) (now (last .entry)) (now (lower .entry)) (now (begin .entry)) (now (end .entry)) (now (rep .entry)) → Groups doc (now (group .entry)) → isSequenced r ≡ false → w .from ≡ from → w .to ≡ to → (((r .kind ≡ 1) × (needy ≡ true)) ⊎ ((r .kind ≡ 2) × (needy ≡ false))) → AsideIn doc w q r x) ⌝ }
 {
     let mut owner = [0u16; LIMIT];
     first_shared(
@@ -148,7 +150,7 @@ fn first_missing(
     Found::Nothing
 }
 
-// The lowest version that offends a reference in the window from..to. Cost: a clear mark for each record, then a look for each selected version,
+// The lowest version that offends a reference in the window from..to, nils aside. Cost: a clear mark for each record, then a look for each selected version,
 // and one for each field version with a value of one that is present, of this rule and of the one that it refers to.
 pub fn missing_in<'a>(
     start: usize,
@@ -166,7 +168,7 @@ pub fn missing_in<'a>(
     to: usize,
 ) -> Found
     requires { ⌜ ((doc : Doc) × (r : Rule) × (p : Rule) × Ready doc r start (now next) (now last) (now lower) (now begin) (now end) (now rep) × Ready doc p «held_start» (now «held_next») (now «held_last») (now «held_lower») (now begin) (now end) (now rep) × (doc .size ≤ limit)) ⌝ }
-    ensures { λ x. ⌜ ((doc : Doc) → (q r : Rule) → (w : Window) → Ready doc r start (now (next .entry)) (now (last .entry)) (now (lower .entry)) (now (begin .entry)) (now (end .entry)) (now (rep .entry)) → Referred doc q «held_start» (now («held_next» .entry)) (now («held_last» .entry)) (now («held_lower» .entry)) (now (begin .entry)) (now (end .entry)) (now (rep .entry)) → isSequenced r ≡ false → r .kind ≡ 3 → w .from ≡ from → w .to ≡ to → x ≡ first (offendsIn doc (meets doc w) w q r) 0 (doc .size)) ⌝ }
+    ensures { λ x. ⌜ ((doc : Doc) → (q r : Rule) → (w : Window) → Ready doc r start (now (next .entry)) (now (last .entry)) (now (lower .entry)) (now (begin .entry)) (now (end .entry)) (now (rep .entry)) → Referred doc q «held_start» (now («held_next» .entry)) (now («held_last» .entry)) (now («held_lower» .entry)) (now (begin .entry)) (now (end .entry)) (now (rep .entry)) → isSequenced r ≡ false → r .kind ≡ 3 → w .from ≡ from → w .to ≡ to → AsideIn doc w q r x) ⌝ }
 {
     let mut seen = [0u8; LIMIT];
     mark_rows(

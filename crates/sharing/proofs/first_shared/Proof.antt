@@ -1,6 +1,7 @@
 -- `sharing::first_shared` meets its contract: for every document that the lists hold, no row below v offends, and the holders tell its values and their class.
 use Prim.Native.Nat.{_+_, _-_}
-use mathlib.Core.Path.{_≡_, refl, _∙_}
+use mathlib.Core.Path.{_≡_, refl}
+use mathlib.Core.Logic.{⊎-elim}
 use native.Mathlib.Omega.{arith}
 use lib.ListN.{length, getD}
 use Rattle.meaning.specs.declared.Rule.{Rule}
@@ -9,6 +10,7 @@ use Rattle.meaning.specs.Select.{selected}
 use Rattle.prepare.specs.Rows.{inRow}
 use Rattle.day.specs.Ready.{Ready}
 use Rattle.day.proofs.Skipping.{sized, next-room, laid, fits, next-of, next-more}
+use Rattle.prepare.proofs.Valued.{low-wants}
 use Rattle.sharing.specs.Row.{during}
 use Rattle.sharing.proofs.Walking.{Shared, shared-start, shared-found, shared-step, shared-end}
 use Rattle.sharing.proofs.Offence.{shared-answer}
@@ -67,8 +69,8 @@ returns c =
     let h = turn row .loop-test .taken in
     λ doc q r w held grouped sequenced e i kinds.
     let k = s .inv .1 doc r held in
-    shared-found _ _ _ _ _ _ _ _ _ k h _ _ (row .row-shares .ensures (inRow doc r (s .v)) (laid _ _ _ _ _ _ _ _ _ held .chains (s .v) h (k .come .is-chosen h))) (c .if1 .taken)
-    ∙ shared-answer _ _ _ _ _ _ _ _ _ doc q r w held sequenced e i _ grouped _ kinds
+    shared-answer _ _ _ _ _ _ _ _ _ doc q r w held (λ f. low-wants doc r f (⊎-elim (λ k. omega (arith, k .0)) (λ k. omega (arith, k .0)) kinds)) e i _ grouped _ kinds
+    (shared-found _ _ _ _ _ _ _ _ _ k h _ _ (row .row-shares .ensures (inRow doc r (s .v)) (laid _ _ _ _ _ _ _ _ _ held .chains (s .v) h (k .come .is-chosen h))) (c .if1 .taken))
 
 mul-index : tie.Need-mul-index Inv-loop μ-loop
 mul-index c =
@@ -104,8 +106,8 @@ same-length-2 c = search needs
 returns-2 : tie.Need-returns-2 Inv-loop μ-loop
 returns-2 c =
     λ doc q r w held grouped sequenced e i kinds.
-    shared-end _ _ _ _ _ _ _ _ _ (c .before .loop .inv .1 doc r held) (c .loop-test .left)
-    ∙ shared-answer _ _ _ _ _ _ _ _ _ doc q r w held sequenced e i _ grouped _ kinds
+    shared-answer _ _ _ _ _ _ _ _ _ doc q r w held (λ f. low-wants doc r f (⊎-elim (λ k. omega (arith, k .0)) (λ k. omega (arith, k .0)) kinds)) e i _ grouped _ kinds
+    (shared-end _ _ _ _ _ _ _ _ _ (c .before .loop .inv .1 doc r held) (c .loop-test .left))
 
 pub first-shared-spec : {M : Type 1} → statement M
 first-shared-spec =

@@ -2,6 +2,7 @@
 use mathlib.Core.Path.{_∙_}
 use native.Mathlib.Omega.{arith}
 use Rattle.day.proofs.Settling.{fresh}
+use Rattle.prepare.proofs.Valued.{low-wants}
 use Rattle.sharing.proofs.Offence.{missing-answer}
 use borrow.Author.Needs.{needs}
 use Rattle.sharing.proofs.missing_in.Statement.{statement}
@@ -32,8 +33,8 @@ returns : tie.Need-returns
 returns c =
     let held = c .before .before .before .mark-rows .ensures in
     λ doc q r w ready referred sequenced kind e i.
-    c .first-missing .ensures doc r ready
-    ∙ missing-answer _ _ _ _ _ _ _ _ _ doc q r w ready sequenced e i _ _ _ _ referred kind _ (held doc q (referred .ready))
+    missing-answer _ _ _ _ _ _ _ _ _ doc q r w ready (λ f. low-wants doc r f (omega arith)) e i _ _ _ _ referred kind _ (held doc q (referred .ready))
+    (c .first-missing .ensures doc r ready)
 
 pub missing-in-spec : {M : Type 1} → statement M
 missing-in-spec =
