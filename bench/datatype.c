@@ -5,7 +5,7 @@
    A text reaches to its end. A number q reaches to the latest end of a number p before it, none between, with a bad difference. */
 static u16 reach[NODES];
 
-/* The valued field versions of the rule by class of item number: group k has from[k] .. from[k + 1], by begin and by end. */
+/* The field versions of the rule with a number or a text, by class of item number: group k has from[k] .. from[k + 1], by begin and by end. */
 static u16 from[NODES + 2], fill[NODES + 2], group_begin[NODES], group_end[NODES];
 
 /* Earlier numbers that later ones have not put in the shade: lows rise, highs fall, both by end. */
@@ -45,8 +45,8 @@ struct verdict datatype_on_days(const struct rule *r)
     return (struct verdict){1, day, found, looked};
 }
 
-/* Whether a version takes part in the groups. */
-static int in_group(int f) { return bank.kind[f] && is_field(f); }
+/* Whether a version takes part in the groups: a nil does not, so that it is no fault, makes no step and parts no other two. */
+static int in_group(int f) { return (bank.kind[f] == NUMBER || bank.kind[f] == TEXT) && is_field(f); }
 
 /* Lays out the groups: counts, places, then both orders. */
 static int find_groups(const struct rule *r)
@@ -93,14 +93,14 @@ static int append(u16 *list, int front, int back, int sign, int p)
     return back + 1;
 }
 
-/* Drops from the front those with a valued version wholly between them and the next q; gives the new front. */
+/* Drops from the front those with one of the group wholly between them and the next q; gives the new front. */
 static int drop(const u16 *list, int front, int back, int latest_begin)
 {
     while (front < back && bank.end[list[front]] <= latest_begin) front++;
     return front;
 }
 
-/* The reach of each field version of one group. latest_begin is that of the valued versions ended by q's begin. */
+/* The reach of each field version of one group. latest_begin is that of those ended by q's begin. */
 static void find_reach(const struct rule *r, int first, int last)
 {
     int p = first, latest_begin = -1, low = 0, lows_end = 0, high = 0, highs_end = 0;

@@ -10,7 +10,7 @@ typedef unsigned long long u64;
 enum { BLOCK = 512, NODE_BLOCKS = 40, RULE_BLOCKS = 10, NODE_SIZE = 20, RULE_SIZE = 50 };
 enum { NODES = 1000, RULES = 100, CENTURY = 36525, MONTHS = 1200, NONE = 65535, DEPTH = 8 };
 enum { ITEM = 1, VERSION = 2 };
-enum { NUMBER = 1, TEXT = 2 };
+enum { NUMBER = 1, TEXT = 2, NIL = 3 };
 enum { KEY = 1, UNIQUE, REFERENCE, CARDINALITY, DATATYPE };
 
 /* A refusal; number 0 says that there is none. */
@@ -28,8 +28,10 @@ struct bank {
     u16 numbered[NODES];                        /* class of the item number; a version has its item's */
     u16 path[NODES];                            /* class of the names from the root; a version has its item's */
     u16 valued[NODES];                          /* class of the value, 0 if there is none; see find_values */
-    u16 pair[NODES];                            /* class of (number of the owner, value); see find_pairs */
+    u16 pair[NODES];                            /* class of (number of the owner, value), 0 if there is none or a nil; see find_pairs */
     u16 by_begin[NODES], by_end[NODES];         /* versions by begin, lower records first; by end, higher records first */
+    int nils;                                   /* versions with a nil, and which: most banks have none */
+    u16 nil[NODES];
     int paths;                                  /* classes of paths; 0 stands above the root */
     u16 path_above[NODES + 1], path_name[NODES + 1];
     u8 path_depth[NODES + 1];

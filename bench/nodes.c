@@ -20,7 +20,10 @@ static int version_fault(const u8 *at, int i)
 {
     const int kind = at[1], value = (int)load32(at + 10), begin = load16(at + 6), end = load16(at + 8);
     if (load16(at + 2) || begin >= end || end > CENTURY || load32(at + 14)) return 5;
-    if (kind != NUMBER && (kind == 0 ? value != 0 : kind != TEXT || value < 0)) return 5;
+    if (kind != NUMBER) {
+        if (kind == TEXT ? value < 0 : value != 0 || kind > NIL) return 5;
+        if (kind == NIL) bank.nil[bank.nils++] = (u16)i;
+    }
     bank.kind[i] = (u8)kind;
     bank.begin[i] = (u16)begin;
     bank.end[i] = (u16)end;
@@ -86,7 +89,7 @@ struct refusal read_nodes(const u8 *image, int length)
     if (no.number) return no;
     bank.count = records_in(length, image, NODE_SIZE);
     __builtin_memset(last_end, 0, sizeof last_end);
-    int misplaced = 0;
+    int misplaced = bank.nils = 0;
     const u8 *at = image + 8;
     for (int i = 0, left = 25; i < bank.count; i++, at += NODE_SIZE) {
         if (left-- == 0) {

@@ -11,14 +11,18 @@ static u8 seen_pair[NODES + 1];              /* by class of number and value */
 
 static int has(int version, int what) { return role[bank.path[version]] & what; }
 
-/* Counts the values (or, where asked, all field versions) of each version in the window. */
+/* Whether a nil is at fault by itself. */
+static int bad_nil(const struct rule *r, int f) { return bank.kind[f] == NIL && (r->kind == KEY || r->kind == REFERENCE); }
+
+/* Counts the values (or, where asked, all field versions) of each version in the window. A nil at fault counts as two, since on a day two
+   values are at fault. A referred version may so hold a nil: only that same nil could want it, and is at fault whether it is held or not. */
 static void count_values(const struct rule *r, int what, int from, int to, int all)
 {
     CLEAR(values_of);
     for (int k = 0; k < bank.versions; k++) {
         const int f = bank.by_begin[k];
         if (!has(f, what) || !meets(f, from, to) || !(all || bank.kind[f])) continue;
-        values_of[owner_of(r, f)]++;
+        values_of[owner_of(r, f)] += (u16)(1 + bad_nil(r, f));
         one[owner_of(r, f)] = bank.valued[f];
     }
 }
@@ -79,7 +83,8 @@ static void find_lowest(const struct rule *r, int from, int to)
     }
 }
 
-/* Key and unique in a window: of one value, the lowest offender is the lowest holder of another number than the lowest holder's. */
+/* Key and unique in a window: of one value, the lowest offender is the lowest holder of another number than the lowest holder's. A nil has
+   one holder, who offends a key. */
 static int double_in_window(const struct rule *r, int from, int to)
 {
     int found = r->kind == KEY ? without_value(r, from, to) : NODES;
@@ -87,7 +92,7 @@ static int double_in_window(const struct rule *r, int from, int to)
     for (int k = 0; k < bank.versions; k++) {
         const int f = bank.by_begin[k], v = owner_of(r, f);
         if (!has(f, FIELD) || !bank.valued[f] || !meets(f, from, to) || v >= found) continue;
-        if (bank.numbered[v] != bank.numbered[lowest[bank.valued[f]]]) found = v;
+        if (bad_nil(r, f) || bank.numbered[v] != bank.numbered[lowest[bank.valued[f]]]) found = v;
     }
     return found;
 }
@@ -102,8 +107,8 @@ static int unheld_in_window(const struct rule *r, int from, int to)
     }
     for (int k = 0; k < bank.versions; k++) {
         const int f = bank.by_begin[k];
-        if (!has(f, FIELD) || !bank.valued[f] || !meets(f, from, to) || held[bank.valued[f]]) continue;
-        if (owner_of(r, f) < found) found = owner_of(r, f);
+        if (!has(f, FIELD) || !bank.valued[f] || !meets(f, from, to)) continue;
+        if ((bad_nil(r, f) || !held[bank.valued[f]]) && owner_of(r, f) < found) found = owner_of(r, f);
     }
     return found;
 }
@@ -115,7 +120,7 @@ static int miscounted_in_window(const struct rule *r, int from, int to)
     for (int k = 0; k < bank.versions; k++) {
         const int f = bank.by_begin[k];
         if (!has(f, FIELD) || !bank.kind[f] || !meets(f, from, to)) continue;
-        if (r->distinct && seen_pair[bank.pair[f]]) continue;
+        if (r->distinct && (!bank.pair[f] || seen_pair[bank.pair[f]])) continue;
         seen_pair[bank.pair[f]] = 1;
         counted[bank.numbered[owner_of(r, f)]]++;
     }

@@ -99,10 +99,17 @@ INLINE void change_shared(struct tally *t, int v, int value, int step)
     else t->filled -= --own[v] == 0;
 }
 
+/* What a field version counts as: its kind where all values count, the class of its pair or of its value elsewhere; 0 if it does not count. */
+INLINE int counted_as(enum mode mode, int f)
+{
+    if (mode == COUNT_DAY || mode == COUNT_WINDOW) return bank.kind[f];
+    return mode == DISTINCT_WINDOW ? bank.pair[f] : bank.valued[f];
+}
+
 /* A field version enters or leaves. */
 INLINE void change_field(const struct rule *r, enum mode mode, struct tally *t, int f, int step)
 {
-    const int v = owner_of(r, f), value = mode == COUNT_DAY || mode == COUNT_WINDOW ? bank.kind[f] : bank.valued[f];
+    const int v = owner_of(r, f), value = counted_as(mode, f);
     if (mode == COUNT_DAY) recount(r, t, &own[v], step);
     if (mode == COUNT_DAY || !value) return;
     if (mode == DOUBLE_DAY) change_single(t, v, value, step);
@@ -114,7 +121,7 @@ INLINE void change_field(const struct rule *r, enum mode mode, struct tally *t, 
     }
     if (mode == COUNT_WINDOW) recount(r, t, &counted[bank.numbered[v]], step);
     if (mode == DISTINCT_WINDOW) {
-        u16 *times = &paired[bank.pair[f]];
+        u16 *times = &paired[value];
         *times = (u16)(*times + step);
         if (step > 0 ? *times == 1 : *times == 0) recount(r, t, &counted[bank.numbered[v]], step);
     }
@@ -192,11 +199,12 @@ INLINE int walk_on(const struct rule *r, enum mode mode, const struct windows *w
     return 0;
 }
 
-/* All windows. A shortened one is not held to the minimum of a cardinality, so that from the first of them on the rule goes without it; where
-   the last window is whole, all are. */
-INLINE struct verdict walk_windows(const struct rule *r, enum mode mode)
+/* All windows, or the first so many. A shortened one is not held to the minimum of a cardinality, so that from the first of them on the rule
+   goes without it; where the last window is whole, all are. */
+INLINE struct verdict walk_windows(const struct rule *r, enum mode mode, int most)
 {
-    const struct windows w = windows_of(r);
+    struct windows w = windows_of(r);
+    if (most < w.count) w.count = most;
     struct verdict found = {0, 0, 0, w.count};
     struct walk s = {{0, 0, 0, 0}, 0, 0, 0, 0};
     if ((mode == COUNT_WINDOW || mode == DISTINCT_WINDOW) && r->min && window_shortened(&w, w.count - 1)) {
@@ -218,11 +226,43 @@ static struct verdict judge_days(const struct rule *r)
     return walk_days(r, COUNT_DAY);
 }
 
-static struct verdict judge_windows(const struct rule *r)
+static struct verdict judge_windows(const struct rule *r, int most)
 {
-    if (r->kind <= UNIQUE) return walk_windows(r, DOUBLE_WINDOW);
-    if (r->kind == REFERENCE) return walk_windows(r, REFERENCE_WINDOW);
-    return r->distinct ? walk_windows(r, DISTINCT_WINDOW) : walk_windows(r, COUNT_WINDOW);
+    if (r->kind <= UNIQUE) return walk_windows(r, DOUBLE_WINDOW, most);
+    if (r->kind == REFERENCE) return walk_windows(r, REFERENCE_WINDOW, most);
+    return r->distinct ? walk_windows(r, DISTINCT_WINDOW, CENTURY) : walk_windows(r, COUNT_WINDOW, CENTURY);
+}
+
+/* Whether a nil is in a rule's field, and shares days with the rule's period. */
+static int nil_in_field(const struct rule *r, int f) { return (role[bank.path[f]] & FIELD) && meets(f, r->begin, r->end); }
+
+/* A key or a reference on days, in a bank with nils: it fails on the first day with a nil in its field, if it holds on all days before. */
+static struct verdict days_with_nils(const struct rule *r)
+{
+    struct rule before = *r;
+    struct verdict found = {0, 0, 0, 0};
+    for (int k = 0; k < bank.nils; k++) {
+        const int f = bank.nil[k], day = bank.begin[f] > r->begin ? bank.begin[f] : r->begin;
+        if (nil_in_field(r, f) && day < before.end) before.end = (u16)day;
+    }
+    if (before.begin < before.end) found = judge_days(&before);
+    if (found.failed || before.end == r->end) return found;
+    return (struct verdict){1, before.end, lowest_offender(r, before.end, before.end + 1), found.looked + 1};
+}
+
+/* The same in windows; a nil that lies between two of them is in neither. */
+static struct verdict windows_with_nils(const struct rule *r)
+{
+    const struct windows w = windows_of(r);
+    int first = w.count;
+    for (int k = 0; k < bank.nils; k++) {
+        const int f = bank.nil[k], window = nil_in_field(r, f) ? first_reaching(&w, bank.begin[f]) : first;
+        if (window < first && window_start(&w, window) < bank.end[f]) first = window;
+    }
+    const struct verdict found = judge_windows(r, first);
+    if (found.failed || first == w.count) return found;
+    const int start = window_start(&w, first);
+    return (struct verdict){1, start, lowest_offender(r, start, window_end(&w, first)), first + 1};
 }
 
 /* The verdict on one rule. */
@@ -234,5 +274,6 @@ struct verdict judge(const struct rule *r)
     if (r->kind != CARDINALITY) find_values();
     find_events();
     clear_tallies();
-    return r->windowed ? judge_windows(r) : judge_days(r);
+    if (bank.nils && (r->kind == KEY || r->kind == REFERENCE)) return r->windowed ? windows_with_nils(r) : days_with_nils(r);
+    return r->windowed ? judge_windows(r, CENTURY) : judge_days(r);
 }

@@ -28,16 +28,24 @@ fn held_by(rows: &[Present], value: Option<Value>) -> bool {
     value.is_some() && rows.iter().any(|other| only(other) == value)
 }
 
+/// Whether a value breaks a datatype rule: a text does, a number outside the bounds does, a nil is passed over.
+fn wrong_type(rule: &Rule, value: &Value) -> bool {
+    match value {
+        Value::Number(x) => (*x as i64) < rule.min || rule.max < *x as i64,
+        Value::Text(_) => true,
+        Value::Nil => false,
+    }
+}
+
 /// Whether row k offends, given the selected versions present and those of the referred rule.
 fn offends(rule: &Rule, rows: &[Present], referred: &[Present], k: usize) -> bool {
     let row = &rows[k];
-    let outside = |x: i64| x < rule.min || rule.max < x;
     match rule.kind {
-        1 => row.values.len() != 1 || held_by(&rows[..k], only(row)),
+        1 => row.values.len() != 1 || row.values[0].is_nil() || held_by(&rows[..k], only(row)),
         2 => row.values.len() > 1 || held_by(&rows[..k], only(row)),
         3 => row.values.len() > 1 || (row.values.len() == 1 && !held_by(referred, only(row))),
-        4 => outside(row.count),
-        _ => row.values.iter().any(|(kind, x)| *kind != 1 || outside(*x as i64)),
+        4 => row.count < rule.min || rule.max < row.count,
+        _ => row.values.iter().any(|value| wrong_type(rule, value)),
     }
 }
 

@@ -12,8 +12,30 @@ pub struct Node {
     pub item: u32,
 }
 
-/// A value: its kind (1 number, 2 text code) and its number.
-pub type Value = (u8, i32);
+/// A value that is present: a number, a text code, or a nil, which stands for one that is known to be unknown.
+#[derive(Clone, Copy)]
+pub enum Value {
+    Number(i32),
+    Text(i32),
+    Nil,
+}
+
+/// Values are equal if kind and number are; a nil equals no value, not even another nil.
+impl PartialEq for Value {
+    fn eq(&self, other: &Value) -> bool {
+        match (self, other) {
+            (Value::Number(a), Value::Number(b)) => a == b,
+            (Value::Text(a), Value::Text(b)) => a == b,
+            _ => false,
+        }
+    }
+}
+
+impl Value {
+    pub fn is_nil(&self) -> bool {
+        matches!(self, Value::Nil)
+    }
+}
 
 /// All records, and for each record the records whose parent it is: an item's versions, a version's items.
 pub struct Bank {
@@ -25,7 +47,12 @@ impl Bank {
     /// The value of a version; kind 0 gives none.
     pub fn value(&self, v: usize) -> Option<Value> {
         let n = &self.nodes[v];
-        if n.vkind == 0 { None } else { Some((n.vkind, n.value)) }
+        match n.vkind {
+            0 => None,
+            1 => Some(Value::Number(n.value)),
+            2 => Some(Value::Text(n.value)),
+            _ => Some(Value::Nil),
+        }
     }
 
     /// The item number of the item whose version v is.
@@ -60,6 +87,7 @@ fn fields_fit(n: &Node) -> bool {
                 0 => n.value == 0,
                 1 => true,
                 2 => n.value >= 0,
+                3 => n.value == 0,
                 _ => false,
             };
             n.name == 0 && is_period(n.begin, n.end) && value_fits && n.item == 0

@@ -59,25 +59,25 @@ fn met(bank: &Bank, rows: &[Row], window: &Window) -> Vec<Met> {
     all
 }
 
-/// Key: no value, or one shared with a lower version of another item number; unique: the latter only.
+/// Key: no value, a nil, or a value shared with a lower version of another item number; unique: the last only.
 fn key_offends(rule: &Rule, rows: &[Met], k: usize) -> bool {
     let row = &rows[k];
     let shares = |lower: &Met| lower.item != row.item && lower.values.iter().any(|x| row.values.contains(x));
-    (rule.kind == 1 && row.values.is_empty()) || rows[..k].iter().any(shares)
+    (rule.kind == 1 && (row.values.is_empty() || row.values.iter().any(Value::is_nil))) || rows[..k].iter().any(shares)
 }
 
-/// Reference: a value that no selected version of the referred rule has in this window.
+/// Reference: a value that no selected version of the referred rule has in this window; so any nil, since it equals no value.
 fn reference_offends(referred: &[Met], row: &Met) -> bool {
     row.values.iter().any(|x| !referred.iter().any(|other| other.values.contains(x)))
 }
 
-/// Cardinality: the values (or the distinct ones) under the row's item number are too few or too many; in a shortened window
-/// never too few, since days on which more could have come are cut off.
+/// Cardinality: the values (or the distinct ones, which leave out nils) under the row's item number are too few or too many; in a
+/// shortened window never too few, since days on which more could have come are cut off.
 fn cardinality_offends(rule: &Rule, rows: &[Met], row: &Met, shortened: bool) -> bool {
     let mut values: Vec<Value> = Vec::new();
     for other in rows.iter().filter(|other| other.item == row.item) {
         for x in &other.values {
-            if !(rule.distinct && values.contains(x)) {
+            if !(rule.distinct && (x.is_nil() || values.contains(x))) {
                 values.push(*x);
             }
         }
@@ -99,13 +99,14 @@ fn steps_wrongly(bank: &Bank, rule: &Rule, group: &[usize], p: usize, q: usize) 
     step < rule.min || rule.max < step
 }
 
-/// Datatype: the field versions of a row that are no number or that follow another one wrongly.
+/// Datatype: the field versions of a row that are no number or that follow another one wrongly. A nil is passed over: it is not at fault
+/// itself, nothing follows it, and it does not lie between two others.
 fn wrong_fields(bank: &Bank, rule: &Rule, rows: &[Met], row: &Met) -> Vec<usize> {
-    let valued = |f: &usize| bank.value(*f).is_some();
+    let looked_at = |f: &usize| bank.value(*f).map_or(false, |value| !value.is_nil());
     let same = rows.iter().filter(|other| other.item == row.item);
-    let group: Vec<usize> = same.flat_map(|other| other.fields.iter().copied()).filter(valued).collect();
+    let group: Vec<usize> = same.flat_map(|other| other.fields.iter().copied()).filter(looked_at).collect();
     let wrong = |q: &usize| bank.nodes[*q].vkind != 1 || group.iter().any(|p| steps_wrongly(bank, rule, &group, *p, *q));
-    row.fields.iter().copied().filter(valued).filter(wrong).collect()
+    row.fields.iter().copied().filter(looked_at).filter(wrong).collect()
 }
 
 /// The lowest offender in the window; the rows of the rule and of the rule it refers to are given.

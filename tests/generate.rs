@@ -3,9 +3,10 @@
 //! usage: generate SEED SMALL LARGE OUT
 //!
 //! SMALL pairs have 2 to 40 records and 1 to 10 rules, LARGE ones 500 to 1,000 records and up to 100 rules; the large ones
-//! stand evenly among the small ones. The same seed and counts give the same file. Of a hundred small pairs 28 are sound,
-//! 20 crowded, 6 of namesakes, 16 at an edge, 24 damaged, 6 garbage; of a hundred large ones 66 are sound, 10 of namesakes,
-//! 10 at an edge, 14 damaged. Half of those of namesakes have a flaw by which items clash.
+//! stand evenly among the small ones. The same seed and counts give the same file. Of a hundred small pairs 26 are sound,
+//! 18 crowded, 6 of namesakes, 6 of nils, 16 at an edge, 22 damaged, 6 garbage; of a hundred large ones 66 are sound, 10 of
+//! namesakes, 10 at an edge, 14 damaged. Half of those of namesakes have a flaw by which items clash. Of the names in each
+//! bank three in eight have nils among their values.
 use std::fs::File;
 use std::io::{self, BufWriter, Write};
 
@@ -17,6 +18,8 @@ mod bank;
 mod damage;
 #[path = "generate/namesakes.rs"]
 mod namesakes;
+#[path = "generate/nils.rs"]
+mod nils;
 #[path = "generate/random.rs"]
 mod random;
 #[path = "generate/records.rs"]
@@ -27,6 +30,7 @@ mod table;
 use bank::{grown, Plan, Shape};
 use damage::{break_images, break_node, break_rule, deepen, garbage, nudge, tangle};
 use namesakes::{flaw, namesakes};
+use nils::{aim_at_nils, of_nils};
 use random::Random;
 use records::{Images, Pair};
 use table::{rules, rules_again, Cost};
@@ -171,6 +175,19 @@ fn of_namesakes(random: &mut Random, is_large: bool) -> Pair {
     Pair { nodes, rules }
 }
 
+/// A little bank of nils, and rules that look at them.
+fn small_nils(random: &mut Random) -> Pair {
+    let mut plan = plan(random, 0);
+    if plan.last - plan.first > 900 {
+        plan.last = plan.first + random.between(20, 900) as u16;
+    }
+    let nodes = of_nils(random, (plan.first, plan.last));
+    let count = random.between(2, 10);
+    let mut rules = rules(random, &nodes, &plan, count, &small_cost());
+    aim_at_nils(random, &mut rules);
+    Pair { nodes, rules }
+}
+
 /// One to three breaks: of nodes, of rules, of the images as bytes; or several of nesting.
 fn damaged(random: &mut Random, mut pair: Pair) -> Images {
     if random.chance(20) {
@@ -195,10 +212,11 @@ fn damaged(random: &mut Random, mut pair: Pair) -> Images {
 
 /// The next pair as it stands in the file.
 fn next_pair(random: &mut Random, is_large: bool) -> Vec<u8> {
-    let shares = if is_large { [66, 10, 14, 0, 0, 10] } else { [28, 16, 24, 6, 20, 6] };
+    let shares = if is_large { [66, 10, 14, 0, 0, 10, 0] } else { [26, 16, 22, 6, 18, 6, 6] };
     let class = random.share(&shares);
     let mut pair = match class {
         5 => of_namesakes(random, is_large),
+        6 => small_nils(random),
         _ if is_large => large(random, class == 1),
         1 => small_edge(random),
         4 => small_crowded(random),

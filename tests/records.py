@@ -8,6 +8,7 @@ COUNTS = (0, 1, 24, 25, 26, 50, 51, 999, 1000, 1001)
 KIND, VKIND, NAME, PARENT, BEGIN, END, VALUE, ITEM = range(8)
 WIDTHS = "BBHHHHiI"  # of these columns
 IS_ITEM, IS_VERSION = 1, 2
+NIL = 3  # value kind, of value 0
 
 # A case: its name, the count, the bytes of the lent image, the columns, and the answer and the bytes written; None where no one tells.
 Case = namedtuple("Case", "name count room columns answer image")
@@ -82,7 +83,8 @@ def grown(draw, records, count):
     while len(records) < count:
         number = draw.choice([n for n in (draw.randrange(1, 2**32) for _ in range(9)) if n not in taken])
         taken.add(number)
-        version = (IS_VERSION, 1, 0, len(records), records[home][BEGIN], records[home][END], draw.randrange(-(2**31), 2**31), 0)
+        kind, value = draw.choice(((1, draw.randrange(-(2**31), 2**31)),) * 7 + ((NIL, 0),))
+        version = (IS_VERSION, kind, 0, len(records), records[home][BEGIN], records[home][END], value, 0)
         records += [(IS_ITEM, 0, draw.randrange(1, 65535), home, 0, 0, 0, number), version][: count - len(records)]
     return records
 
@@ -135,10 +137,12 @@ def put(records, i, field, value):
 
 
 def faults():
-    """Records with one fault of each number, with the answer that they must have; and eight items in a chain, which are sound."""
+    """Records with one fault of each number, with the answer that they must have; and eight items in a chain, and a nil, which are sound."""
     yield sound("a chain of eight", chain(8), BLOCK)
+    yield sound("a nil", put(chain(3), 1, VKIND, NIL), BLOCK)
     for answer, records in (
         ("refused 5 1", put(chain(3), 1, KIND, 3)),
+        ("refused 5 3", put(chain(3), 3, VKIND, NIL)),
         ("refused 6 2", put(chain(3), 2, PARENT, 2)),
         ("refused 7 3", put(chain(3), 3, END, 201)),
         ("refused 8 16", chain(9)),
@@ -168,7 +172,7 @@ def edges(draw, records, i, field):
     parents = [k for k in range(i) if records[k][KIND] != records[i][KIND]] or [0]
     values = {
         KIND: (0, 1, 2, 3, 255),
-        VKIND: (0, 1, 2, 3, 255),
+        VKIND: (0, 1, 2, NIL, 4, 255),
         NAME: (0, 1, 65534, 65535, other[NAME]),
         PARENT: (0, i - 1, i, i + 1, 65535, parents[-1], draw.choice(parents), draw.randrange(len(records))),
         BEGIN: days,

@@ -29,19 +29,24 @@ pub struct Plan {
     pub crowded: bool,
 }
 
-/// What values the versions of one name have: how often none, a number, a text, and out of which numbers.
+/// What values the versions of one name have: how often none, a number, a text, and out of which numbers; and how many of a hundred are nils.
 struct Manner {
     kinds: [usize; 3],
     pool: Vec<i32>,
+    nils: usize,
 }
 
 const SMALL: [i32; 8] = [0, 1, 2, 70, 71, -1, 2150, -2150];
 const ENDS: [i32; 8] = [i32::MIN, i32::MIN + 1, -1, 0, 1, i32::MAX - 1, i32::MAX, 1 << 30];
 
+/// Nils of a hundred values: most names have none, some a few, so that keys fail late, some many, so that nils meet each other.
+const NILS: [usize; 8] = [0, 0, 0, 0, 0, 3, 12, 35];
+
 fn manner(random: &mut Random, ends: bool, crowded: bool) -> Manner {
+    let nils = random.pick(&NILS);
     if crowded {
         let kinds = random.pick(&[[0, 1, 0], [0, 1, 0], [1, 6, 0], [1, 5, 5]]);
-        return Manner { kinds, pool: (0..random.between(1, 4)).map(|k| [0, 1, 2, 70][k]).collect() };
+        return Manner { kinds, pool: (0..random.between(1, 4)).map(|k| [0, 1, 2, 70][k]).collect(), nils };
     }
     let kinds = [[0, 1, 0], [0, 1, 0], [0, 0, 1], [1, 5, 5], [1, 0, 0], [1, 6, 0], [1, 12, 1]][random.share(&[5, 3, 4, 3, 1, 3, 2])];
     let pool = match if ends { 2 } else { random.share(&[7, 3, 1, 3]) } {
@@ -50,7 +55,7 @@ fn manner(random: &mut Random, ends: bool, crowded: bool) -> Manner {
         2 => ENDS.to_vec(),
         _ => vec![0, 1, 2, 3],
     };
-    Manner { kinds, pool }
+    Manner { kinds, pool, nils }
 }
 
 /// Of an item: how many items stand on the way to it, its first free day and the day that its versions must end by.
@@ -239,6 +244,9 @@ impl<'a> Growth<'a> {
     fn value_for(&mut self, name: u16, number: u32) -> (u8, i32) {
         let k = self.names.iter().position(|n| *n == name).unwrap_or(0);
         let manner = &self.manners[k];
+        if self.random.chance(manner.nils) {
+            return (3, 0);
+        }
         if self.plan.tidy && self.random.chance(97) {
             let own = (number % 100000 * 3) as i32 + self.random.below(3) as i32;
             return (if manner.kinds[1] > 0 { 1 } else { 2 }, own);

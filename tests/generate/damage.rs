@@ -73,13 +73,13 @@ fn break_item(random: &mut Random, nodes: &mut [Node]) {
 fn break_version(random: &mut Random, nodes: &mut [Node]) {
     let v = some(random, nodes, 2);
     let n = &mut nodes[v];
-    match random.below(9) {
+    match random.below(11) {
         0 => n.name = random.pick(&[1, 65535]),
         1 => n.item = random.pick(&[1, u32::MAX]),
         2 => n.end = n.begin,
         3 => n.end = n.begin.wrapping_sub(1),
         4 => n.end = random.pick(&[36526, 65535]),
-        5 => n.vkind = random.pick(&[3, 255]),
+        5 => n.vkind = random.pick(&[4, 255]),
         6 => {
             n.vkind = 0;
             n.value = random.pick(&[1, i32::MIN, 65536]);
@@ -87,6 +87,10 @@ fn break_version(random: &mut Random, nodes: &mut [Node]) {
         7 => {
             n.vkind = 2;
             n.value = random.pick(&[-1, i32::MIN]);
+        }
+        8 | 9 => {
+            n.vkind = 3;
+            n.value = random.pick(&[1, -1, 256, i32::MIN, i32::MAX]);
         }
         _ => n.kind = random.pick(&[0, 1, 3, 255]),
     }
@@ -147,10 +151,10 @@ fn break_root(random: &mut Random, pair: &mut Pair) {
 /// A last record that may not decode or may have a bad parent.
 fn stray(random: &mut Random, nodes: &mut Vec<Node>) {
     let parent = random.below(nodes.len() + 2) as u16;
-    let (kind, vkind) = (random.pick(&[1, 2, 2, 2, 3]), random.pick(&[0, 0, 0, 3]));
+    let (kind, (vkind, value)) = (random.pick(&[1, 2, 2, 2, 3]), random.pick(&[(0, 0), (0, 0), (3, 0), (3, 1), (4, 0)]));
     let (name, item) = if kind == 1 { (2, 4_000_000) } else { (0, 0) };
     if nodes.len() < 1000 {
-        nodes.push(Node { kind, vkind, name, parent, item, begin: 0, end: (kind == 2) as u16 * 36525, ..Node::default() });
+        nodes.push(Node { kind, vkind, name, parent, item, value, begin: 0, end: (kind == 2) as u16 * 36525, ..Node::default() });
     }
 }
 

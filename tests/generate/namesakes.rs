@@ -129,10 +129,11 @@ fn home(random: &mut Random, homes: &[Node], namesake: &mut Namesake) -> u16 {
 }
 
 fn version(random: &mut Random, item: usize, period: (u16, u16)) -> Node {
-    let (vkind, value) = match random.share(&[1, 6, 3]) {
+    let (vkind, value) = match random.share(&[3, 18, 9, 1]) {
         0 => (0, 0),
         1 => (1, random.below(4) as i32),
-        _ => (2, 70 + random.below(3) as i32),
+        2 => (2, 70 + random.below(3) as i32),
+        _ => (3, 0),
     };
     Node { kind: 2, vkind, parent: item as u16, begin: period.0, end: period.1, value, ..Node::default() }
 }
