@@ -44,11 +44,11 @@ fn version_fields(n: Node) -> bool
     let zero = numbers::is_zero(n.value);
     let not_below = numbers::at_least_zero(n.value);
     (n.kind == 2)
-        & (n.vkind <= 2)
+        & (n.vkind <= 3)
         & (n.name == 0)
         & ((n.begin < n.end) & (n.end <= 36525))
-        & ((1 <= n.vkind) | zero)
-        & ((n.vkind <= 1) | not_below)
+        & ((n.vkind == 1) | (n.vkind == 2) | zero)
+        & ((n.vkind != 2) | not_below)
         & (n.item == 0)
 }
 

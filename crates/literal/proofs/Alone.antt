@@ -1,6 +1,6 @@
 -- Only values: what stands in the column of them, and that a value shared with one of them is shared in the words of the definition.
 use mathlib.Core.Path.{_≡_, sym, _∙_}
-use mathlib.Core.Bool.{Bool, true, false, _&&_}
+use mathlib.Core.Bool.{Bool, true, false, _&&_, not}
 use mathlib.Core.List.{List}
 use Prim.Native.Nat.{ℕ, _+_, _-_, _≤_, _<_}
 use lib.IntN.{ℤ, pos}
@@ -14,7 +14,7 @@ use Rattle.meaning.specs.declared.Rule.{Rule}
 use Rattle.meaning.specs.Document.{Doc}
 use Rattle.meaning.specs.Bytes.{eqZ}
 use Rattle.meaning.specs.Walk.{any}
-use Rattle.meaning.specs.Select.{selected, present, gives, has, sameValue}
+use Rattle.meaning.specs.Select.{selected, present, gives, hasNil, has, isNil, sameValue}
 use Rattle.meaning.specs.Day.{values, sharesOnly}
 use Rattle.meaning.proofs.Basics.{clear, and-same, and-r}
 use Rattle.meaning.proofs.Walks.{any-same}
@@ -71,10 +71,15 @@ module _ (is : ℕ → ℕ → Type 0) where
             (rw (getD-set-same column i x 0 h) e);
       }
 
--- two values are equal if kind and number are
+-- two values are equal if kind and number are, and they are no nils
 module _ (doc : Doc) (vkinds : List ℕ) (vals : List ℤ) (w : Valued doc vkinds vals) (f : ℕ) where
-  pub same-is : (g : ℕ) (x : Bool) → x ≡ eqZ (getD vals f (pos 0)) (getD vals g (pos 0)) → eqb (getD vkinds f 0) (getD vkinds g 0) && x ≡ sameValue doc f g
-  unfolding sameValue
+  pub is-nil : eqb (getD vkinds f 0) 3 ≡ isNil doc f
+  unfolding isNil
+  is-nil = rw (w .vkind .at f)
+
+  pub same-is : (g : ℕ) (x : Bool) → x ≡ eqZ (getD vals f (pos 0)) (getD vals g (pos 0))
+      → eqb (getD vkinds f 0) (getD vkinds g 0) && x && not (eqb (getD vkinds f 0) 3) ≡ sameValue doc f g
+  unfolding sameValue isNil
   same-is g x e = rw (e, w .vkind .at f, w .vkind .at g, w .value .at f, w .value .at g)
 
   -- an entry of the column, counted from one
@@ -87,7 +92,16 @@ module _ (doc : Doc) (vkinds : List ℕ) (vals : List ℤ) (w : Valued doc vkind
     unfolding sharesAt
     shares-one n x is = is ∙ sym (rw (sym e, lt-ltb 0 past (omega arith)))
 
--- f gives v its only value: the versions that share it are those whose only value is equal to that of f
+-- f gives v its only value: what is asked of the values of v is asked of f
+module _ (doc : Doc) (p : ℕ → Bool) (r : Rule) (v f many : ℕ) (c : Counts (gives doc p r v) (doc .size) many f) (one : many ≡ 1) where
+  asked-it : (h : ℕ → Bool) → any (λ g. gives doc p r v g && h g) 0 (doc .size) ≡ h f
+  asked-it = one-asks (gives doc p r v) (doc .size) f (sym (c .counts) ∙ one) (c .low (omega arith)) (c .passes (omega arith))
+
+  pub nil-is : hasNil doc p r v ≡ isNil doc f
+  unfolding hasNil
+  nil-is = asked-it (isNil doc)
+
+-- and the versions that share this value are those whose only value is equal to that of f
 module _ (doc : Doc) (p : ℕ → Bool) (q r : Rule) (v f many : ℕ) (c : Counts (gives doc p r v) (doc .size) many f) (one : many ≡ 1) (only : List ℕ) (o : Only doc p q only) where
   -- that u's value is equal to the one of f
   theirs : (u x : ℕ) → values doc p q u ≡ 1 → x - 1 < doc .size → gives doc p q u (x - 1) ≡ true → has doc p q u f ≡ sameValue doc f (x - 1)
@@ -104,7 +118,7 @@ module _ (doc : Doc) (p : ℕ → Bool) (q r : Rule) (v f many : ℕ) (c : Count
       (λ y.
       let some : 0 < x = ltb-true 0 x (entry .has ∙ y) in
       let single : values doc p q u ≡ 1 = eqb-true (values doc p q u) 1 (and-r (present doc p q u) _ y) in
-      let mine = one-asks (gives doc p r v) (doc .size) f (sym (c .counts) ∙ one) (c .low (omega arith)) (c .passes (omega arith)) (has doc p q u) in
+      let mine = asked-it doc p r v f many c one (has doc p q u) in
       sym (mine ∙ theirs u x single (omega (arith, entry .low)) (entry .gives-it some))))
 
   pub shared-is : (upto : ℕ) → upto ≤ doc .size → any (sharesAt doc only f) 0 upto ≡ any (sharesOnly doc p r v q) 0 upto

@@ -13,7 +13,7 @@ use Rattle.meaning.specs.declared.Rule.{Rule}
 use Rattle.meaning.specs.Document.{Doc}
 use Rattle.meaning.specs.Rules.{byKind}
 use Rattle.meaning.specs.Walk.{any, count}
-use Rattle.meaning.specs.Select.{fieldOf, isNumber, within, selected, present, gives}
+use Rattle.meaning.specs.Select.{fieldOf, isNil, isNumber, within, selected, present, gives}
 use Rattle.meaning.specs.Day.{values, sharesOnly, taken, key, unique, reference, cardinality, datatype, breaks, offends}
 use Rattle.meaning.proofs.Basics.{and-same}
 use Rattle.marks.specs.Marks.{marked, Marks}
@@ -22,7 +22,7 @@ use Rattle.literal.specs.Counts.{Counts}
 use Rattle.literal.specs.Wrong.{givesWrong}
 use Rattle.literal.specs.Only.{Only, sharesAt}
 use Rattle.literal.specs.Posed.{Compares}
-use Rattle.literal.proofs.Alone.{chosen-present, shared-is}
+use Rattle.literal.proofs.Alone.{chosen-present, nil-is, shared-is}
 
 -- a count outside the bounds
 pub count-breaks : (doc : Doc) (p : ℕ → Bool) (r : Rule) (v many : ℕ) (low high : ℤ) (x : Bool) → x ≡ not (leZ low (pos many) && leZ (pos many) high)
@@ -32,9 +32,9 @@ count-breaks doc p r v many low high x e l h c = e ∙ rw (l, h, c)
 
 -- f gives a wrong value
 pub wrong-breaks : (doc : Doc) (p : ℕ → Bool) (r : Rule) (vkinds : List ℕ) (vals : List ℤ) → Valued doc vkinds vals → (v f : ℕ) (g w : Bool) (z low high : ℤ)
-    → g ≡ gives doc p r v f → w ≡ not (eqb (getD vkinds f 0) 1 && (leZ low z && leZ z high)) → z ≡ getD vals f (pos 0) → low ≡ r .low → high ≡ r .high
+    → g ≡ gives doc p r v f → w ≡ not (eqb (getD vkinds f 0) 3 || (eqb (getD vkinds f 0) 1 && (leZ low z && leZ z high))) → z ≡ getD vals f (pos 0) → low ≡ r .low → high ≡ r .high
     → g && w ≡ givesWrong doc p r v f
-unfolding givesWrong within isNumber
+unfolding givesWrong within isNil isNumber
 wrong-breaks doc p r vkinds vals d v f g w z low high eg ew ez el eh = rw (eg, ew, ez, el, eh, d .vkind .at f, d .value .at f)
 
 pub datatype-is : (doc : Doc) (p : ℕ → Bool) (r : Rule) (v : ℕ) (x : Bool) → x ≡ any (givesWrong doc p r v) 0 (doc .size) → x ≡ datatype doc p r v
@@ -68,6 +68,10 @@ module _ (doc : Doc) (p : ℕ → Bool) (q r : Rule) (only : List ℕ) (w : Comp
   unfolding values
   has-many = c .counts
 
+  pub breaks-key-not-one : r .kind ≡ 1 → (many ≡ 1 → ⊥) → true ≡ breaks doc p q r v (r .kind)
+  unfolding breaks byKind key
+  breaks-key-not-one k n = as-kind doc p q r v 1 k (rw (ne-eqb (values doc p r v) 1 (λ e. n (has-many ∙ e))))
+
   -- compared with the only values of a rule s
   compared : (s : Rule) → Only doc p s only → (upto : ℕ) → upto ≤ doc .size → (t : Bool) → t ≡ (eqb many 1 && any (sharesAt doc only one) 0 upto)
       → t ≡ (eqb (values doc p r v) 1 && any (sharesOnly doc p r v s) 0 upto)
@@ -82,9 +86,9 @@ module _ (doc : Doc) (p : ℕ → Bool) (q r : Rule) (only : List ℕ) (w : Comp
     unfolding taken
     twice h i = rw i at (compared r (w .own h) upto low t e)
 
-    pub breaks-key : r .kind ≡ 1 → upto ≡ v → not (eqb many 1) || t ≡ breaks doc p q r v (r .kind)
+    pub breaks-key : r .kind ≡ 1 → upto ≡ v → many ≡ 1 → (nil : Bool) → nil ≡ isNil doc one → nil || t ≡ breaks doc p q r v (r .kind)
     unfolding breaks byKind key
-    breaks-key k i = as-kind doc p q r v 1 k (rw (has-many, twice (omega arith) i))
+    breaks-key k i m nil is = as-kind doc p q r v 1 k (rw (is, twice (omega arith) i, eq-eqb (values doc p r v) 1 (sym has-many ∙ m), nil-is doc p r v one many c m))
 
     pub breaks-unique : r .kind ≡ 2 → upto ≡ v → ltb 1 many || t ≡ breaks doc p q r v (r .kind)
     unfolding breaks byKind unique

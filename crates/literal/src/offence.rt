@@ -5,7 +5,7 @@ use crate::fields::values;
 use crate::only::shared;
 use meaning::Rule;
 ghost use mathlib.Core.Path.{_≡_};
-ghost use mathlib.Core.Bool.{Bool, _&&_, not};
+ghost use mathlib.Core.Bool.{Bool, _&&_, _||_, not};
 ghost use Prim.Native.Nat.{ℕ, _≤_, _<_};
 ghost use lib.Dec.{eqb};
 ghost use lib.IntN.{pos};
@@ -34,11 +34,11 @@ fn outside(many: usize, low: i32, high: i32) -> bool
     !((low <= z) & (z <= high))
 }
 
-// Whether a value is no number, or one outside low..high. Cost: three tests.
+// Whether a value is neither a nil nor a number in low..high. Cost: four tests.
 fn wrong(vkind: u8, value: i32, low: i32, high: i32) -> bool
-    ensures { λ x. ⌜ x ≡ not (eqb vkind 1 && (leZ low value && leZ value high)) ⌝ }
+    ensures { λ x. ⌜ x ≡ not (eqb vkind 3 || (eqb vkind 1 && (leZ low value && leZ value high))) ⌝ }
 {
-    !((vkind == 1) & ((low <= value) & (value <= high)))
+    !((vkind == 3) | ((vkind == 1) & ((low <= value) & (value <= high))))
 }
 
 // Whether v has too few or too many field versions. Cost: a look at each record.
@@ -50,7 +50,7 @@ fn wrong_count(kind: &[u8], name: &[u16], parent: &[u16], present: &[u8], r: Rul
     outside(many, r.low, r.high)
 }
 
-// Whether f gives v a value that is no number, or lies outside the bounds. Cost: at most eight looks.
+// Whether f gives v a value that is neither a nil nor a number within the bounds. Cost: at most eight looks.
 fn gives_wrong(
     kind: &[u8],
     vkind: &[u8],
@@ -69,7 +69,7 @@ fn gives_wrong(
     given & wrong(vkind[f], value[f], r.low, r.high)
 }
 
-// Whether some value of v is no number, or lies outside the bounds. Cost: a look at each record.
+// Whether some value of v is neither a nil nor a number within the bounds. Cost: a look at each record.
 fn wrong_value(
     kind: &[u8],
     vkind: &[u8],
@@ -105,7 +105,7 @@ fn taken(vkind: &[u8], value: &[i32], only: &[u16], many: usize, one: usize, upt
 }
 
 // Whether v, with these values, breaks a key, a unique rule or a reference: a key or a unique rule looks at the versions below v,
-// a reference at all. Cost: five looks for each of these.
+// a reference at all; a key is broken by a nil too. Cost: five looks for each of these, and one at the value for a key.
 fn breaks_values(
     vkind: &[u8],
     value: &[i32],
@@ -127,7 +127,10 @@ fn breaks_values(
     if kind == 2 {
         return (1 < many) | twice;
     }
-    (many != 1) | twice
+    if many != 1 {
+        return true;
+    }
+    (vkind[one] == 3) | twice
 }
 
 // Whether v breaks the rule, by its kind. Cost: two looks at each record.

@@ -60,12 +60,13 @@ pub fn only_values(
     only
 }
 
-// Whether records f and g have equal values: kind and number are. Cost: four looks.
+// Whether records f and g have equal values: kind and number are, and f is no nil, which equals nothing. Cost: four looks.
 fn same_value(vkind: &[u8], value: &[i32], f: usize, g: usize) -> bool
     requires { ⌜ (f < length (now vkind)) × (g < length (now vkind)) × (length (now vkind) ≤ length (now value)) ⌝ }
     ensures { λ x. ⌜ ((doc : Doc) → Valued doc (now (vkind .entry)) (now (value .entry)) → x ≡ sameValue doc f g) ⌝ }
 {
-    (vkind[f] == vkind[g]) & numbers::same(value[f], value[g])
+    let k = vkind[f];
+    (k == vkind[g]) & numbers::same(value[f], value[g]) & (k != 3)
 }
 
 // Whether version u has an only value, equal to that of record f. Cost: five looks.

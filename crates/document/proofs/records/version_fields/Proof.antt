@@ -17,7 +17,7 @@ unfolding versionFields
 returns c =
     let a1 = c .before .before .before in
     let a2 = a1 .before .before .before in
-    let a = a2 .before .before in
+    let a = a2 .before .before .before in
     let b = a .before .before in
     let z = b .before .before .args .n .value in
     let same = toZ-ofZ w32 z (record { sfits = b .before .struct-told .given .1 .1 .1 .1 .1 .1 .0 .1 }) in

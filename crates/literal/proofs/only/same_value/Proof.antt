@@ -5,11 +5,11 @@ use borrow.Author.Needs.{needs}
 use Rattle.literal.proofs.only.same_value.Statement.{statement}
 use Rattle.literal.proofs.only.same_value.Tie as tie
 
+shared-slice-read-k : tie.Need-shared-slice-read-k
+shared-slice-read-k c = search needs
+
 shared-slice-read-result : tie.Need-shared-slice-read-result
 shared-slice-read-result c = search needs
-
-shared-slice-read-result-2 : tie.Need-shared-slice-read-result-2
-shared-slice-read-result-2 c = search needs
 
 mul-same : tie.Need-mul-same
 mul-same c = search needs
@@ -33,8 +33,8 @@ pub same-value-spec : {M : Type 1} → statement M
 same-value-spec =
     tie.close
     (tie.spec
+    shared-slice-read-k
     shared-slice-read-result
-    shared-slice-read-result-2
     mul-same
     shared-slice-copy-out-same
     mul-same-2
