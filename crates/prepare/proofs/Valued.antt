@@ -13,7 +13,7 @@ use Rattle.meaning.specs.Rules.{isKey, isUnique, isSequenced}
 use Rattle.meaning.specs.Select.{valued, isNil}
 use Rattle.meaning.proofs.Basics.{went, or-cases}
 use Rattle.meaning.proofs.Says.{says}
-use Rattle.prepare.specs.Rows.{wantsBy, overNils, wants}
+use Rattle.prepare.specs.Rows.{wantsBy, overNils, wants, KnownOnly}
 
 -- the first three kinds pass over no nils
 pub none-over : (r : Rule) → r .kind ≤ 3 → overNils r ≡ false
@@ -38,9 +38,12 @@ module _ (doc : Doc) (r : Rule) (f : ℕ) where
     unfolding wants overNils
     counted-wants e = rw (windowed, e)
 
-    pub stepped-wants : 5 ≤ r .kind → wants doc r f ≡ (valued doc f && not (isNil doc f))
+    stepped-wants : 5 ≤ r .kind → wants doc r f ≡ (valued doc f && not (isNil doc f))
     unfolding wants overNils
     stepped-wants h = rw (windowed, le-leb 5 (r .kind) h)
+
+pub known-only : (doc : Doc) (r : Rule) → isSequenced r ≡ false → 5 ≤ r .kind → KnownOnly doc r
+known-only doc r windowed h f = stepped-wants doc r f windowed h
 
 pub valued-only : (doc : Doc) (q : Rule) → (isKey q || isUnique q) ≡ true → (f : ℕ) → wants doc q f ≡ valued doc f
 valued-only doc q e f =

@@ -29,6 +29,10 @@ overNils r = leb 5 (r .kind) || (eqb (r .kind) 4 && eqb (r .distinct) 1)
 unfoldable pub wants : Doc → Rule → ℕ → Bool
 wants doc r f = cond (isSequenced r) (wantsBy doc r f (r .kind)) (valued doc f && not (overNils r && isNil doc f))
 
+-- numbers and texts matter to the rule, and nils do not
+abbrev pub KnownOnly : Doc → Rule → Type 0
+KnownOnly doc r = (f : ℕ) → wants doc r f ≡ (valued doc f && not (isNil doc f))
+
 -- f is a wanted field version of v, which is selected
 unfoldable pub inRow : Doc → Rule → ℕ → ℕ → Bool
 inRow doc r v f = selected doc r v && fieldOf doc r v f && wants doc r f

@@ -15,8 +15,8 @@ use Rattle.meaning.specs.declared.Rule.{Rule}
 use Rattle.meaning.specs.Block.{limit}
 use Rattle.meaning.specs.Walk.{any}
 use Rattle.meaning.specs.Document.{Doc, numberOf}
-use Rattle.meaning.specs.Rules.{isSequenced}
-use Rattle.meaning.specs.Select.{isNumber, within}
+use Rattle.prepare.specs.Rows.{KnownOnly}
+use Rattle.meaning.specs.Select.{isNil, isNumber, within}
 use Rattle.meaning.specs.Window.{under, follows, jumps}
 use Rattle.meaning.proofs.Basics.{went, le-or-lt, clear, never, and-l, and-r, both}
 use Rattle.meaning.proofs.Walks.{any-none, any-true}
@@ -30,7 +30,7 @@ use Rattle.steps.specs.Levels.{raised}
 use Rattle.steps.specs.Places.{Closing, settledAs}
 use Rattle.steps.specs.Calm.{Lies, Widened, Spanned, Numbered, Calm}
 use Rattle.steps.proofs.Grouping.{group-version}
-use Rattle.steps.proofs.Windowed.{under-ever}
+use Rattle.steps.proofs.Windowed.{number-ever}
 use Rattle.steps.proofs.Raising.{step-above, step-below}
 use Rattle.steps.proofs.Reached.{reach-none, reach-text, wrong-number}
 
@@ -94,7 +94,7 @@ module _ (keys vkinds : List ℕ) (values : List ℤ) where
   calm-told least most low high x y s fl fh ex ey t e p = calm-by least most low high s fl fh (rw (ex, ey) at (sym e ∙ p))
 
 module _ (doc : Doc) (r : Rule) (vkinds : List ℕ) (values : List ℤ) (begins ends keys groups closes : List ℕ)
-    (c : Closing doc r vkinds values begins ends keys groups closes) (ok : Judgeable doc) (flat : isSequenced r ≡ false)
+    (c : Closing doc r vkinds values begins ends keys groups closes) (ok : Judgeable doc) (known : KnownOnly doc r)
     (low high : ℤ) (lo : low ≡ r .low) (hi : high ≡ r .high) (calm : Calm keys vkinds values low high) where
   -- a number under an item number has a row
   numbered : (n g : ℕ) → inGroup doc r n g ≡ true → isNumber doc g ≡ true → Numbered keys vkinds g
@@ -114,7 +114,7 @@ module _ (doc : Doc) (r : Rule) (vkinds : List ℕ) (values : List ℤ) (begins 
 
     -- h lies wholly between g and f
     abbrev between : ℕ → ℕ → ℕ → Bool
-    between n g h = leb (doc .end g) (doc .begin h) && leb (doc .end h) (doc .begin f) && under doc always r n h
+    between n g h = leb (doc .end g) (doc .begin h) && leb (doc .end h) (doc .begin f) && under doc always r n h && not (isNil doc h)
 
     quiet : (n g : ℕ) → jumps doc always r n f g ≡ true → ⊥
     unfolding jumps follows
@@ -122,8 +122,8 @@ module _ (doc : Doc) (r : Rule) (vkinds : List ℕ) (values : List ℤ) (begins 
         let out = and-l (not (within r (doc .value f -ℤ doc .value g))) _ jump in
         let follow = and-r (not (within r (doc .value f -ℤ doc .value g))) _ jump in
         let near = and-l (isNumber doc g && leb (doc .end g) (doc .begin f) && under doc always r n g) (not (any (between n g) 0 (doc .size))) follow in
-        let m : inGroup doc r n g ≡ true = sym (under-ever doc r ok flat n g) ∙ and-r (isNumber doc g && leb (doc .end g) (doc .begin f)) _ near in
         let number = and-l (isNumber doc g) _ (and-l (isNumber doc g && leb (doc .end g) (doc .begin f)) _ near) in
+        let m : inGroup doc r n g ≡ true = sym (number-ever doc r ok known n g number) ∙ and-r (isNumber doc g && leb (doc .end g) (doc .begin f)) _ near in
         clear (close g (numbered n g m number)) (simp says at out)
 
     pub calm-number : (v : ℕ) → v ≡ getD keys f 0 → (a : ℕ) → ltb a 0 ≡ wrongAfter doc r f a

@@ -1,7 +1,7 @@
 -- The field versions under an item number: in a window they are those of the group that meet it, for a field version lies within its selected version.
 use mathlib.Core.Path.{_≡_, refl, sym, _∙_, ap}
 use mathlib.Core.Logic.{⊎-elim}
-use mathlib.Core.Bool.{Bool, true, false, _&&_, and-true, and-false}
+use mathlib.Core.Bool.{Bool, true, false, _&&_, not, and-true, and-false}
 use Prim.Native.Nat.{ℕ, _≤_, _<_}
 use native.Mathlib.Omega.{arith}
 use lib.Dec.{eqb}
@@ -9,15 +9,14 @@ use borrow.Author.Tests.{eqb-true}
 use Rattle.meaning.specs.declared.Rule.{Rule}
 use Rattle.meaning.specs.Walk.{any}
 use Rattle.meaning.specs.Document.{Doc, isVersion, numberOf, above}
-use Rattle.meaning.specs.Rules.{isSequenced}
-use Rattle.meaning.specs.Select.{selected, fieldOf, valued, present, gives}
+use Rattle.meaning.specs.Select.{selected, fieldOf, isNil, present, gives}
 use Rattle.meaning.specs.Window.{Window, meets, under}
 use Rattle.meaning.proofs.Basics.{went, tests-same}
 use Rattle.meaning.proofs.Walks.{any-none, any-same, any-true}
 use Rattle.meaning.proofs.Says.{says}
 use Rattle.meaning.proofs.Selects.{selected-version, selected-here, field-version}
 use Rattle.columns.specs.Judgeable.{Judgeable}
-use Rattle.prepare.specs.Rows.{wants, inRow}
+use Rattle.prepare.specs.Rows.{KnownOnly, inRow}
 use Rattle.groups.specs.Groups.{inGroup}
 
 -- a test that hangs on no number, out of a walk
@@ -39,22 +38,25 @@ module _ (doc : Doc) (r : Rule) where
   row-selected v f e = (simp says at e) .0 .0
 
   -- where the selected version of each present field version is present
-  module _ (flat : isSequenced r ≡ false) (p : ℕ → Bool) (held : (v f : ℕ) → inRow doc r v f ≡ true → p f ≡ true → p v ≡ true) where
-    pub row-present : (v f : ℕ) → present doc p r v && gives doc p r v f ≡ (inRow doc r v f && p f)
-    unfolding present gives inRow wants
+  module _ (known : KnownOnly doc r) (p : ℕ → Bool) (held : (v f : ℕ) → inRow doc r v f ≡ true → p f ≡ true → p v ≡ true) where
+    pub row-present : (v f : ℕ) → present doc p r v && gives doc p r v f && not (isNil doc f) ≡ (inRow doc r v f && p f)
+    unfolding present gives inRow
     row-present v f =
-        tests-same (present doc p r v && gives doc p r v f) (inRow doc r v f && p f)
-        (λ e. let s = simp says at e in rw flat (simp says (((s .0 .0, s .1 .0 .0), s .1 .1), s .1 .0 .1)))
+        tests-same (present doc p r v && gives doc p r v f && not (isNil doc f)) (inRow doc r v f && p f)
+        (λ e. let s = simp says at e in rw (known f) (simp says (((s .0 .0 .0, s .0 .1 .0 .0), (s .0 .1 .1, s .1)), s .0 .1 .0 .1)))
         (λ e.
         let s = simp says at e in
-        let w : valued doc f ≡ true = rw flat at (s .0 .1) in
-        simp says ((s .0 .0 .0, held v f (simp says (s .0)) (s .1)), ((s .0 .0 .1, s .1), w)))
+        let w = simp says at (sym (known f) ∙ s .0 .1) in
+        simp says (((s .0 .0 .0, held v f (simp says (s .0)) (s .1)), ((s .0 .0 .1, s .1), w .0)), w .1))
 
-    pub under-group : (n f : ℕ) → under doc p r n f ≡ (inGroup doc r n f && p f)
+    pub under-group : (n f : ℕ) → under doc p r n f && not (isNil doc f) ≡ (inGroup doc r n f && p f)
     unfolding under inGroup
     under-group n f =
-        any-same _ (λ v. (inRow doc r v f && eqb (numberOf doc v) n) && p f) 0 (doc .size)
-        (λ v a l. ap (λ b. b && eqb (numberOf doc v) n) (row-present v f) ∙ turn (inRow doc r v f) (p f) (eqb (numberOf doc v) n))
+        sym (any-and (λ v. present doc p r v && gives doc p r v f && eqb (numberOf doc v) n) (not (isNil doc f)) (doc .size))
+        ∙ any-same _ (λ v. (inRow doc r v f && eqb (numberOf doc v) n) && p f) 0 (doc .size)
+        (λ v a l.
+        turn (present doc p r v && gives doc p r v f) (eqb (numberOf doc v) n) (not (isNil doc f))
+        ∙ ap (λ b. b && eqb (numberOf doc v) n) (row-present v f) ∙ turn (inRow doc r v f) (p f) (eqb (numberOf doc v) n))
         ∙ any-and (λ v. inRow doc r v f && eqb (numberOf doc v) n) (p f) (doc .size)
       where
         turn : (a b c : Bool) → (a && b) && c ≡ ((a && c) && b)

@@ -1,7 +1,7 @@
 -- What the searches along the order of ends find for one field version is how far back a window must reach for it to offend.
 use mathlib.Core.Path.{_≡_, refl, sym, _∙_, ap}
 use mathlib.Core.Logic.{⊎-elim}
-use mathlib.Core.Bool.{Bool, true, false, _&&_, _||_, not, cond}
+use mathlib.Core.Bool.{Bool, true, false, _&&_, _||_, not, cond, and-assoc}
 use mathlib.Core.List.{List}
 use Prim.Native.Nat.{ℕ, _+_, _-_, _≤_, _<_}
 use native.Mathlib.Omega.{arith}
@@ -14,8 +14,7 @@ use Rattle.meaning.specs.declared.Rule.{Rule}
 use Rattle.meaning.specs.Block.{limit}
 use Rattle.meaning.specs.Walk.{any}
 use Rattle.meaning.specs.Document.{Doc, numberOf}
-use Rattle.meaning.specs.Rules.{isSequenced}
-use Rattle.meaning.specs.Select.{isNumber, within}
+use Rattle.meaning.specs.Select.{isNil, isNumber, within}
 use Rattle.meaning.specs.Window.{under, follows, jumps}
 use Rattle.meaning.proofs.Basics.{went, le-or-lt, clear, never, tests-same, and-l, and-r, both, or-cases, or-l, or-r}
 use Rattle.meaning.proofs.Walks.{any-none, any-false, any-some, any-true}
@@ -23,6 +22,7 @@ use Rattle.meaning.proofs.Says.{says}
 use Rattle.meaning.proofs.Selects.{version-here}
 use Rattle.columns.specs.Judgeable.{Judgeable}
 use Rattle.columns.proofs.Along.{past-low, past-in}
+use Rattle.prepare.specs.Rows.{KnownOnly}
 use Rattle.groups.specs.Groups.{inGroup}
 use Rattle.groups.specs.Classes.{classAt}
 use Rattle.groups.proofs.Gathering.{class-here}
@@ -33,7 +33,7 @@ use Rattle.steps.specs.Levels.{levelOf, boundOf, Placed, placeLevel}
 use Rattle.steps.specs.Sweeping.{Sweepable, Sought}
 use Rattle.steps.specs.Places.{Closing, Threaded, Settled, groupAt, endAt, settledAs}
 use Rattle.steps.proofs.Grouping.{group-version}
-use Rattle.steps.proofs.Windowed.{under-ever}
+use Rattle.steps.proofs.Windowed.{under-ever, number-ever}
 use Rattle.steps.proofs.Stacking.{past-out}
 use Rattle.steps.proofs.Raising.{wrong-levels}
 use Rattle.steps.proofs.Reached.{chosen, reach-none, reach-text, wrong-number}
@@ -136,7 +136,7 @@ module _ (doc : Doc) (r : Rule) (vkinds : List ℕ) (values : List ℤ) (begins 
         (λ (h : j < s). (j, h, w .2))
         (le-or-lt s j)
 
-    module _ (flat : isSequenced r ≡ false) (t until w reach : ℕ) (turn : Turn own wrong s t) (until-is : until ≡ endAt ends closes t)
+    module _ (known : KnownOnly doc r) (t until w reach : ℕ) (turn : Turn own wrong s t) (until-is : until ≡ endAt ends closes t)
         (p : Latest own (level 1) (boundOf 1 z low high until) s w) (reach-is : reach ≡ cond (eqb w 0) until 0) where
       until-none : t ≡ 0 → until ≡ 0
       unfolding endAt
@@ -166,7 +166,7 @@ module _ (doc : Doc) (r : Rule) (vkinds : List ℕ) (values : List ℤ) (begins 
 
       -- h lies wholly between g and f
       abbrev between : ℕ → ℕ → Bool
-      between g h = leb (doc .end g) (doc .begin h) && leb (doc .end h) (doc .begin f) && under doc always r n h
+      between g h = leb (doc .end g) (doc .begin h) && leb (doc .end h) (doc .begin f) && under doc always r n h && not (isNil doc h)
 
       -- g jumps to f, and ends after day a
       abbrev jumped : ℕ → ℕ → Bool
@@ -190,8 +190,8 @@ module _ (doc : Doc) (r : Rule) (vkinds : List ℕ) (values : List ℤ) (begins 
           (λ h _ _. never (between g h)
           (λ b.
           let q = simp says at b in
-          unparted free h (sym (under-ever doc r ok flat n h) ∙ q .1) (q .0 .1) (omega (arith, q .0 .0)))) in
-          let there-under : under doc always r n g ≡ true = under-ever doc r ok flat n g ∙ m in
+          unparted free h (sym (under-ever doc r ok known n h) ∙ both (under doc always r n h) (not (isNil doc h)) (q .0 .1) (simp says (q .1))) (q .0 .0 .1) (omega (arith, q .0 .0 .0)))) in
+          let there-under : under doc always r n g ≡ true = and-l (under doc always r n g) (not (isNil doc g)) (under-ever doc r ok known n g ∙ m) in
           let ends : leb (doc .end g) (doc .begin f) ≡ true = le-leb (doc .end g) (doc .begin f) (ended (t - 1) (omega (arith, turn .low))) in
           let out : not (within r (doc .value f -ℤ doc .value g)) ≡ true = and-r (isNumber doc g) _ hit in
           let number : isNumber doc g ≡ true = and-l (isNumber doc g) _ hit in
@@ -216,9 +216,9 @@ module _ (doc : Doc) (r : Rule) (vkinds : List ℕ) (values : List ℤ) (begins 
           let follow = and-r (not (within r (doc .value f -ℤ doc .value g))) _ jump in
           let near = and-l (isNumber doc g && leb (doc .end g) (doc .begin f) && under doc always r n g) _ follow in
           let quiet : any (between g) 0 (doc .size) ≡ false = not-true (any (between g) 0 (doc .size)) (and-r (isNumber doc g && leb (doc .end g) (doc .begin f) && under doc always r n g) _ follow) in
-          let m : inGroup doc r n g ≡ true = sym (under-ever doc r ok flat n g) ∙ and-r (isNumber doc g && leb (doc .end g) (doc .begin f)) _ near in
           let first = and-l (isNumber doc g && leb (doc .end g) (doc .begin f)) _ near in
           let number = and-l (isNumber doc g) _ first in
+          let m : inGroup doc r n g ≡ true = sym (number-ever doc r ok known n g number) ∙ and-r (isNumber doc g && leb (doc .end g) (doc .begin f)) _ near in
           let ends = leb-true (doc .end g) (doc .begin f) (and-r (isNumber doc g) _ first) in
           let j = place-of g m ends in
           let step : wrong (j .0) ≡ true = rw (j .2) (both (isNumber doc g) _ number out) in
@@ -231,10 +231,10 @@ module _ (doc : Doc) (r : Rule) (vkinds : List ℕ) (values : List ℤ) (begins 
           (λ (h : 0 < w).
           let q = parts h in
           let i = there (w - 1) in
+          let near-both = both (leb (doc .end g) (doc .begin i)) (leb (doc .end i) (doc .begin f)) (le-leb (doc .end g) (doc .begin i) (omega (arith, q .0))) (le-leb (doc .end i) (doc .begin f) (q .1)) in
           let lies : between g i ≡ true
-          = both (leb (doc .end g) (doc .begin i) && leb (doc .end i) (doc .begin f)) (under doc always r n i)
-          (both (leb (doc .end g) (doc .begin i)) (leb (doc .end i) (doc .begin f)) (le-leb (doc .end g) (doc .begin i) (omega (arith, q .0))) (le-leb (doc .end i) (doc .begin f) (q .1)))
-          (under-ever doc r ok flat n i ∙ q .2) in
+          = and-assoc (leb (doc .end g) (doc .begin i) && leb (doc .end i) (doc .begin f)) (under doc always r n i) (not (isNil doc i))
+          ∙ both (leb (doc .end g) (doc .begin i) && leb (doc .end i) (doc .begin f)) (under doc always r n i && not (isNil doc i)) near-both (under-ever doc r ok known n i ∙ q .2) in
           absurd (clear lies (any-false (between g) 0 (doc .size) quiet i (omega arith) (omega (arith, version-here doc i (group-version doc r n i (q .2)))))))
           (le-or-lt w 0) in
           let all : reach ≡ until = reach-is ∙ rw (eq-eqb w 0 free) in
@@ -278,7 +278,7 @@ module _ (doc : Doc) (r : Rule) (vkinds : List ℕ) (values : List ℤ) (begins 
         start-low = λ f h. l f (omega arith);
       }
 
-  module _ (flat : isSequenced r ≡ false) (low high : ℤ) (lo : low ≡ r .low) (hi : high ≡ r .high) (fl : mag low < 2147483648) (fh : mag high < 2147483648)
+  module _ (known : KnownOnly doc r) (low high : ℤ) (lo : low ≡ r .low) (hi : high ≡ r .high) (fl : mag low < 2147483648) (fh : mag high < 2147483648)
       (last prior past start out : List ℕ) (thread : Threaded (length vkinds) keys groups closes last prior)
       (pasts : (f : ℕ) → f < length vkinds → getD past f 0 ≡ getD last (classAt groups (length vkinds) (getD keys f 0)) 0)
       (starts : Sought 0 vkinds values begins ends closes prior past begins low high start) (s : Settled vkinds values begins ends keys closes prior start low high out) where
@@ -324,7 +324,7 @@ module _ (doc : Doc) (r : Rule) (vkinds : List ℕ) (values : List ℤ) (begins 
           let part = s .partings .found f in-values mine (getD past f 0) along (begun .passed) in
           let e : getD out f 0 ≡ cond (eqb (getD (s .parting) f 0) 0) (getD (s .until) f 0) 0
           = s .answer f in-values ∙ rw (lt-leb (length values) (getD keys f 0) (omega (arith, c .value .size)), eq-eqb (getD vkinds f 0) 1 number) in
-          reach-settled doc r vkinds values begins ends keys groups closes c ok (numberOf doc v) f (getD past f 0) (getD start f 0) prior (getD values f (pos 0)) low high along begun flat
+          reach-settled doc r vkinds values begins ends keys groups closes c ok (numberOf doc v) f (getD past f 0) (getD start f 0) prior (getD values f (pos 0)) low high along begun known
           _ (getD (s .until) f 0) (getD (s .parting) f 0) (getD out f 0) turn (s .untils f in-values) part e a
           ∙ sym (wrong-number doc r vkinds keys (c .vkind) (c .rows) f in-kinds v is (omega (arith, c .vkind .size)) number a)
 

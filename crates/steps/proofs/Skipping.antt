@@ -24,6 +24,7 @@ use Rattle.marks.proofs.After.{after-is}
 use Rattle.prepare.specs.Holders.{Skips}
 use Rattle.prepare.specs.Rows.{inRow}
 use Rattle.steps.specs.Reaching.{wrongAfter, Reaches, stepped}
+use Rattle.prepare.proofs.Valued.{known-only}
 use Rattle.steps.proofs.Grouping.{row-version}
 use Rattle.steps.proofs.Windowed.{offends-in}
 
@@ -80,7 +81,7 @@ module _ (doc : Doc) (q r : Rule) (w : Window) (begins ends reach : List ℕ) (p
   told : (f : ℕ) → f < doc .size → stepped begins ends reach from to f ≡ offendsIn doc (meets doc w) w q r f
   unfolding meets
   told f h =
-      rw (p .begin .at f, p .end .at f, s .above f from h low, offends-in doc r ok flat w q f kind, f-is, t-is)
+      rw (p .begin .at f, p .end .at f, s .above f from h low, offends-in doc r ok (known-only doc r flat (omega arith)) w q f kind, f-is, t-is)
       (turn (isVersion doc f) (ltb (doc .begin f) to) (ltb from (doc .end f)) (wrongAfter doc r f from) (wrong-version f from))
     where
       turn : (v b e x : Bool) → (x ≡ true → v ≡ true) → (b && e) && x ≡ (x && ((v && b) && e))

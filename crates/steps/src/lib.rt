@@ -18,6 +18,7 @@ ghost use Rattle.columns.specs.Lent.{Periods};
 ghost use Rattle.columns.specs.Judgeable.{Judgeable};
 ghost use Rattle.marks.specs.Marks.{Marks};
 ghost use Rattle.prepare.specs.Holders.{Skips};
+ghost use Rattle.prepare.specs.Rows.{KnownOnly};
 ghost use Rattle.steps.specs.Reaching.{Reaches, stepped};
 ghost use Rattle.steps.specs.Places.{Closing};
 
@@ -42,7 +43,7 @@ fn reaches_sought(
     high: i32,
 ) -> [u16; LIMIT]
     requires { ⌜ ((doc : Doc) × (r : Rule) × Closing doc r (now vkind) (now value) (now begin) (now end) (now key) (now group) (now closes) × Judgeable doc) ⌝ }
-    ensures { λ x. ⌜ ((doc : Doc) (r : Rule) → Closing doc r (now (vkind .entry)) (now (value .entry)) (now (begin .entry)) (now (end .entry)) (now (key .entry)) (now (group .entry)) (now (closes .entry)) → Judgeable doc → isSequenced r ≡ false → low ≡ r .low → high ≡ r .high → Reaches doc r x) ⌝ }
+    ensures { λ x. ⌜ ((doc : Doc) (r : Rule) → Closing doc r (now (vkind .entry)) (now (value .entry)) (now (begin .entry)) (now (end .entry)) (now (key .entry)) (now (group .entry)) (now (closes .entry)) → Judgeable doc → KnownOnly doc r → low ≡ r .low → high ≡ r .high → Reaches doc r x) ⌝ }
 {
     let links = places::thread(key, group, closes, vkind.len());
     let last = links.last;
@@ -88,7 +89,7 @@ pub fn reaches_swept(
     high: i32,
 ) -> [u16; LIMIT]
     requires { ⌜ ((doc : Doc) × (r : Rule) × Closing doc r (now vkind) (now value) (now begin) (now end) (now key) (now group) (now closes) × Judgeable doc) ⌝ }
-    ensures { λ x. ⌜ ((doc : Doc) (r : Rule) → Closing doc r (now (vkind .entry)) (now (value .entry)) (now (begin .entry)) (now (end .entry)) (now (key .entry)) (now (group .entry)) (now (closes .entry)) → Judgeable doc → isSequenced r ≡ false → low ≡ r .low → high ≡ r .high → Reaches doc r x) ⌝ }
+    ensures { λ x. ⌜ ((doc : Doc) (r : Rule) → Closing doc r (now (vkind .entry)) (now (value .entry)) (now (begin .entry)) (now (end .entry)) (now (key .entry)) (now (group .entry)) (now (closes .entry)) → Judgeable doc → KnownOnly doc r → low ≡ r .low → high ≡ r .high → Reaches doc r x) ⌝ }
 {
     if spans::calm(key, vkind, value, low, high) {
         return places::unmoved(key, vkind);
