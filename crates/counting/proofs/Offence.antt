@@ -1,7 +1,7 @@
 -- An item number is out of range by what is counted under it exactly where the meaning says that its versions offend.
 use mathlib.Core.Path.{_≡_, refl, sym, _∙_, ap, ap₂, fun-ext}
 use mathlib.Core.Logic.{⊎-elim}
-use mathlib.Core.Bool.{Bool, true, false, _&&_, _||_, not, cond, and-true}
+use mathlib.Core.Bool.{Bool, true, false, _&&_, _||_, not, cond}
 use mathlib.Core.List.{List}
 use Prim.Native.Nat.{ℕ, _<_}
 use native.Mathlib.Nat.{le-refl}
@@ -15,17 +15,20 @@ use Rattle.meaning.specs.declared.Rule.{Rule}
 use Rattle.meaning.specs.Walk.{any, count, first}
 use Rattle.meaning.specs.Document.{Doc, isVersion, above, numberOf}
 use Rattle.meaning.specs.Rules.{byKind, isSequenced}
-use Rattle.meaning.specs.Select.{selected, fieldOf, valued, sameValue, present, gives}
+use Rattle.meaning.specs.Select.{selected, fieldOf, valued, isNil, sameValue, present, gives}
 use Rattle.meaning.specs.Window.{Window, shortened, meets, under, counts, cardinalityIn, breaksIn, offendsIn}
 use Rattle.meaning.proofs.Basics.{went, tests-same, and-l, and-r, and-same, both}
 use Rattle.meaning.proofs.Walks.{any-some, any-true, count-same, first-same}
 use Rattle.meaning.proofs.Says.{says}
-use Rattle.meaning.proofs.Selects.{selected-version, selected-here}
+use Rattle.meaning.proofs.Selects.{selected-version, selected-here, field-version}
 use Rattle.meaning.proofs.Slices.{stands}
 use Rattle.columns.specs.Lent.{Periods}
 use Rattle.columns.specs.Judgeable.{Judgeable}
 use Rattle.values.specs.Represents.{Represents}
+use Rattle.values.proofs.Equals.{known-same}
+use Rattle.values.proofs.Counts.{taken, counts-taken}
 use Rattle.prepare.specs.Rows.{wants, inRow}
+use Rattle.prepare.proofs.Valued.{counted-wants}
 use Rattle.groups.specs.Groups.{inGroup}
 use Rattle.groups.proofs.Gathering.{group-under, under-group, row-version}
 use Rattle.day.proofs.Single.{outside-bounds}
@@ -49,10 +52,10 @@ module _ (doc : Doc) (judgeable : Judgeable doc) (w : Window) where
       let w = judgeable .seated f (m .0 .0) .over q in
       simp says ((w .version, omega (arith, w .from)), omega (arith, w .to))
 
-  module _ (r : Rule) (windowed : isSequenced r ≡ false) where
-    wants-valued : (f : ℕ) → wants doc r f ≡ valued doc f
-    unfolding wants
-    wants-valued f = rw windowed
+  module _ (r : Rule) (windowed : isSequenced r ≡ false) (kind : r .kind ≡ 4) where
+    -- nils are passed over where values are counted
+    wanted : (f : ℕ) → wants doc r f ≡ (valued doc f && not (eqb (r .distinct) 1 && isNil doc f))
+    wanted f = counted-wants doc r f windowed kind
 
     -- a selected version is present where a field version of it is
     holder-meets : (v f : ℕ) → selected doc r v ≡ true → fieldOf doc r v f ≡ true → meets doc w f ≡ true → meets doc w v ≡ true
@@ -67,35 +70,42 @@ module _ (doc : Doc) (judgeable : Judgeable doc) (w : Window) where
         rw up at (above-meets f (omega arith) m))
         (went (eqb (r .field) 0))
 
-    -- under an item number stand the present ones of its group
-    under-is : (n f : ℕ) → under doc (meets doc w) r n f ≡ (inGroup doc r n f && meets doc w f)
+    -- what is counted of those under an item number are the present ones of its group
+    under-is : (n f : ℕ) → taken doc (meets doc w) r n (eqb (r .distinct) 1) f ≡ (inGroup doc r n f && meets doc w f)
     unfolding under present gives inRow
     under-is n f =
         let test : ℕ → Bool = λ v. present doc (meets doc w) r v && gives doc (meets doc w) r v f && eqb (numberOf doc v) n in
-        tests-same (under doc (meets doc w) r n f) (inGroup doc r n f && meets doc w f)
+        let spared = not (eqb (r .distinct) 1 && isNil doc f) in
+        tests-same (taken doc (meets doc w) r n (eqb (r .distinct) 1) f) (inGroup doc r n f && meets doc w f)
         (λ e.
-        let k = any-true test 0 (doc .size) e in
+        let k = any-true test 0 (doc .size) (and-l (under doc (meets doc w) r n f) spared e) in
         let v = k .0 in
         let t = simp says at (k .1 .passes) in
+        let want = wanted f ∙ both (valued doc f) spared (t .0 .1 .1) (and-r (under doc (meets doc w) r n f) spared e) in
         both (inGroup doc r n f) (meets doc w f)
-        (under-group doc r n f (record { of = v; row = simp says ((t .0 .0 .0, t .0 .1 .0 .0), wants-valued f ∙ t .0 .1 .1); number = t .1 }))
+        (under-group doc r n f (record { of = v; row = simp says ((t .0 .0 .0, t .0 .1 .0 .0), want); number = t .1 }))
         (t .0 .1 .0 .1))
         (λ e.
         let u = group-under doc r n f (and-l (inGroup doc r n f) (meets doc w f) e) in
         let m = and-r (inGroup doc r n f) (meets doc w f) e in
         let v = u .of in
         let t = simp says at (u .row) in
-        any-some test 0 (doc .size) v
+        let want = sym (wanted f) ∙ t .1 in
+        both (under doc (meets doc w) r n f) spared
+        (any-some test 0 (doc .size) v
         (record {
           from = omega arith;
           below = omega (arith, selected-here doc r v (t .0 .0));
-          passes = simp says (((t .0 .0, holder-meets v f (t .0 .0) (t .0 .1) m), ((t .0 .1, m), sym (wants-valued f) ∙ t .1)), u .number);
+          passes = simp says (((t .0 .0, holder-meets v f (t .0 .0) (t .0 .1) m), ((t .0 .1, m), and-l (valued doc f) spared want)), u .number);
         }))
+        (and-r (valued doc f) spared want))
 
     under-version : (n f : ℕ) → under doc (meets doc w) r n f ≡ true → isVersion doc f ≡ true
+    unfolding under present gives
     under-version n f e =
-        let u = group-under doc r n f (and-l (inGroup doc r n f) (meets doc w f) (sym (under-is n f) ∙ e)) in
-        row-version doc r (u .of) f (u .row)
+        let k = any-true _ 0 (doc .size) e in
+        let t = simp says at (k .1 .passes) in
+        field-version doc r (k .0) f (t .0 .0 .0) (t .0 .1 .0 .0)
 
     module _ (begins ends reps : List ℕ) (periods : Periods doc begins ends) (represents : Represents doc reps) where
       abbrev p : ℕ → Bool
@@ -108,7 +118,7 @@ module _ (doc : Doc) (judgeable : Judgeable doc) (w : Window) where
       unfolding meets
       touches-meets v e = rw (e, periods .begin .at v, periods .end .at v)
 
-      group-is : (n : ℕ) → (λ f. inGroup doc r n f && p f) ≡ under doc (meets doc w) r n
+      group-is : (n : ℕ) → (λ f. inGroup doc r n f && p f) ≡ taken doc (meets doc w) r n (eqb (r .distinct) 1)
       group-is n =
           fun-ext (λ f.
           and-same (inGroup doc r n f) (p f) (meets doc w f) (λ i. let u = group-under doc r n f i in touches-meets f (row-version doc r (u .of) f (u .row)))
@@ -118,20 +128,21 @@ module _ (doc : Doc) (judgeable : Judgeable doc) (w : Window) where
       number-is : (distinct : Bool) → distinct ≡ eqb (r .distinct) 1 → (n : ℕ)
           → numberIn p (doc .size) rep distinct (inGroup doc r n) ≡ count (counts doc (meets doc w) r n) 0 (doc .size)
       unfolding numberIn counts
-      number-is distinct d n = ap (λ (h : ℕ → Bool). counted distinct h) (group-is n) ∙ by distinct ∙ ap (λ b. count (newest b) 0 (doc .size)) d
+      number-is distinct d n = ap (counted distinct) (group-is n ∙ ap (taken doc (meets doc w) r n) (sym d)) ∙ by distinct d
         where
-          u : ℕ → Bool
-          u = under doc (meets doc w) r n
-
           counted : Bool → (ℕ → Bool) → ℕ
           counted b h = cond b (count (λ x. any (λ f. h f && eqb (rep f) x) 0 (doc .size)) 0 (doc .size)) (count h 0 (doc .size))
 
-          newest : Bool → ℕ → Bool
-          newest b f = u f && not (b && any (λ g. sameValue doc f g && u g) 0 f)
+          same : (f g : ℕ) → taken doc (meets doc w) r n true f ≡ true → taken doc (meets doc w) r n true g ≡ true → sameValue doc f g ≡ eqb (rep f) (rep g)
+          same f g a b =
+              known-same represents f g (under-version n f (and-l (under doc (meets doc w) r n f) (not (isNil doc f)) a)) (under-version n g (and-l (under doc (meets doc w) r n g) (not (isNil doc g)) b))
+              (simp says at (and-r (under doc (meets doc w) r n f) (not (isNil doc f)) a))
 
-          by : (b : Bool) → counted b u ≡ count (newest b) 0 (doc .size)
-          by true = sym (first-of-value (doc .size) rep (represents .low) u (sameValue doc) (λ f g a b. represents .same f g (under-version n f a) (under-version n g b)) (doc .size) (le-refl (doc .size)))
-          by false = count-same u (newest false) 0 (doc .size) (λ f a b. sym (and-true (u f)))
+          by : (b : Bool) → b ≡ eqb (r .distinct) 1 → counted b (taken doc (meets doc w) r n b) ≡ count (counts doc (meets doc w) r n) 0 (doc .size)
+          by true e =
+              sym (first-of-value (doc .size) rep (represents .low) (taken doc (meets doc w) r n true) (sameValue doc) same (doc .size) (le-refl (doc .size)))
+              ∙ count-same _ _ 0 (doc .size) (λ f a b. sym (counts-taken doc (meets doc w) r n (sym e) f))
+          by false e = count-same _ _ 0 (doc .size) (λ f a b. rw (← e))
 
       breaks-is : (distinct : Bool) (low high : ℕ) → Terms r (shortened w) distinct low high → (v : ℕ)
           → breaks p (doc .size) rep distinct low high (inGroup doc r (numberOf doc v)) ≡ cardinalityIn doc (meets doc w) w r v
@@ -173,4 +184,4 @@ module _ (doc : Doc) (r : Rule) (start : ℕ) (next begins ends reps groups last
       ap (λ n. first (offending (selected doc r) (touches begins ends from to) (λ v. breaks (touches begins ends from to) n (λ f. getD reps f 0) distinct low high (inGroup doc r (numberOf doc v)))) 0 n)
       (s .periods .begin .size)
       ∙ rw (sym a, sym b)
-      (first-same _ _ 0 (doc .size) (λ v i j. offends-is doc (s .judgeable) w r (s .windowed) begins ends reps (s .periods) (s .represents) q distinct low high terms v))
+      (first-same _ _ 0 (doc .size) (λ v i j. offends-is doc (s .judgeable) w r (s .windowed) (terms .kind) begins ends reps (s .periods) (s .represents) q distinct low high terms v))

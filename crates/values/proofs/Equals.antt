@@ -154,3 +154,7 @@ module _ {doc : Doc} {reps : List ℕ} (represents : Represents doc reps) where
 pub nil-unlike : (doc : Doc) (f g : ℕ) → isNil doc f ≡ true → sameValue doc f g ≡ false
 unfolding sameValue
 nil-unlike doc f g n = rw n (and-false (eqb (doc .vkind f) (doc .vkind g) && eqZ (doc .value f) (doc .value g)))
+
+-- equal values are nils or not together
+pub nil-alike : (doc : Doc) (f g : ℕ) → sameValue doc f g ≡ true → isNil doc f ≡ isNil doc g
+nil-alike doc f g e = nil-kind doc f g (agree doc f g e .0)

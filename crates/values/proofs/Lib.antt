@@ -2,3 +2,4 @@
 pub mod Equals
 pub mod Keying
 pub mod Falling
+pub mod Counts
