@@ -1,7 +1,7 @@
 -- What the offence of a day comes to, by the rule's kind.
 use mathlib.Core.Path.{_≡_, refl, sym, _∙_, ap}
 use mathlib.Core.Logic.{_⊎_, inl, inr, ⊎-elim}
-use mathlib.Core.Bool.{Bool, true, false, _&&_, not, and-true}
+use mathlib.Core.Bool.{Bool, true, false, _&&_, _||_, not, and-true}
 use Prim.Native.Nat.{ℕ, zero, suc, _≤_, _<_}
 use native.Mathlib.Omega.{arith}
 use lib.IntN.{pos}
@@ -11,14 +11,15 @@ use Rattle.meaning.specs.declared.Rule.{Rule}
 use Rattle.meaning.specs.Walk.{any, count}
 use Rattle.meaning.specs.Document.{Doc}
 use Rattle.meaning.specs.Rules.{byKind, isSequenced}
-use Rattle.meaning.specs.Select.{selected, fieldOf, valued, isNumber, sameValue, within, present, gives, has}
+use Rattle.meaning.specs.Select.{selected, fieldOf, valued, isNil, isNumber, sameValue, within, present, gives, hasNil, has}
 use Rattle.meaning.specs.Day.{values, sharesOnly, taken, key, unique, reference, cardinality, datatype, breaks, offends}
 use Rattle.meaning.proofs.Basics.{went, le-or-lt, clear, and-l, and-r, both, and-else, or-cases}
 use Rattle.meaning.proofs.Walks.{any-true, any-some, any-false, count-same}
 use Rattle.meaning.proofs.Selects.{selected-here}
 use Rattle.prepare.specs.Rows.{wantsBy, wants, inRow}
+use Rattle.prepare.specs.Spoiling.{spoils}
 use Rattle.groups.proofs.Gathering.{row-selected}
-use Rattle.soonest.proofs.Offences.{Lacks, Twice, Shared, Unmatched, Some}
+use Rattle.soonest.proofs.Offences.{Lacks, Twice, Shared, Unmatched, Some, nil-given, spoilt-by}
 use Rattle.parts.proofs.Tallies.{some, two}
 use Rattle.soonest.proofs.Held.{heldBy, held, row-here, held-one, held-lacks, held-some, held-twice, gives-held, values-held}
 use Rattle.soonest.proofs.Nested.{Nested}
@@ -125,11 +126,12 @@ module _ (doc : Doc) (p : ℕ → Bool) where
         (le-or-lt (held doc p q u) 1)
 
     -- a present one whose value no row of q has as its only one
-    unmatched : (v f : ℕ) → inRow doc r v f ≡ true → p f ≡ true → any (sharesOnly doc p r v q) 0 (doc .size) ≡ false → Unmatched doc p r q
-    unmatched v f i e n =
+    unmatched : (v f : ℕ) → inRow doc r v f ≡ true → p f ≡ true → any (sharesOnly doc p r v q) 0 (doc .size) ≡ false → isNil doc f ≡ false → Unmatched doc p r q
+    unmatched v f i e n k =
         record {
           v = v;
           f = f;
+          known = k;
           in-row = i;
           here = e;
           none = λ u g j d m only.
@@ -164,17 +166,23 @@ module _ (doc : Doc) (p : ℕ → Bool) where
       unfolding wants
       wants-by k e f = rw (sequenced, e)
 
-      -- no value, two values, or the one value of another row
-      pub key-offence : r .kind ≡ 1 → Lacks doc p r ⊎ (Twice doc p r ⊎ Shared doc p r (λ v. v))
+      -- no value, two values, or the one value of another row; or a nil
+      pub key-offence : r .kind ≡ 1 → (Lacks doc p r ⊎ (Twice doc p r ⊎ Shared doc p r (λ v. v))) ⊎ (spoils doc p r v ≡ true)
       unfolding breaks byKind key wantsBy
       key-offence k =
           let w : (f : ℕ) → wants doc r f ≡ valued doc f = wants-by 1 k in
+          let not-one = not (eqb (values doc p r v) 1) in
+          ⊎-elim
+          (λ b.
           ⊎-elim
           (λ n.
-          ⊎-elim inl (λ t. inr (inl t))
-          (values-not-one r w v offender-chosen offender-present (not-true (eqb (values doc p r v) 1) n)))
-          (λ t. inr (inr (taken-shared r w v offender-chosen t)))
-          (or-cases (not (eqb (values doc p r v) 1)) (taken doc p r v) (broken 1 k))
+          inl
+          (⊎-elim inl (λ t. inr (inl t))
+          (values-not-one r w v offender-chosen offender-present (not-true (eqb (values doc p r v) 1) n))))
+          (λ n. inr (spoilt-by doc p r v (inl k) offender-here n))
+          (or-cases not-one (hasNil doc p r v) b))
+          (λ t. inl (inr (inr (taken-shared r w v offender-chosen t))))
+          (or-cases (not-one || hasNil doc p r v) (taken doc p r v) (broken 1 k))
 
       -- two values, or the one value of another row
       pub unique-offence : r .kind ≡ 2 → Twice doc p r ⊎ Shared doc p r (λ v. v)
@@ -186,21 +194,24 @@ module _ (doc : Doc) (p : ℕ → Bool) where
           (λ t. inr (taken-shared r w v offender-chosen t))
           (or-cases (ltb 1 (values doc p r v)) (taken doc p r v) (broken 2 k))
 
-      -- two values, or a value that no referred row has as its only one
-      pub reference-offence : r .kind ≡ 3 → ((f : ℕ) → wants doc q f ≡ valued doc f) → Nested doc p q → Twice doc p r ⊎ Unmatched doc p r q
+      -- two values, or a value that no referred row has as its only one; or a nil
+      pub reference-offence : r .kind ≡ 3 → ((f : ℕ) → wants doc q f ≡ valued doc f) → Nested doc p q → (Twice doc p r ⊎ Unmatched doc p r q) ⊎ (spoils doc p r v ≡ true)
       unfolding breaks byKind reference wantsBy
       reference-offence k w′ nested =
           let w : (f : ℕ) → wants doc r f ≡ valued doc f = wants-by 3 k in
           let lone = not (any (sharesOnly doc p r v q) 0 (doc .size)) in
           ⊎-elim
-          (λ n. inl (values-twice r w v offender-chosen n))
+          (λ n. inl (inl (values-twice r w v offender-chosen n)))
           (λ t.
           let one : values doc p r v ≡ 1 = eqb-true (values doc p r v) 1 (and-l (eqb (values doc p r v) 1) lone t) in
           let s = some (heldBy doc p r v) 0 (doc .size) (omega (arith, values-held doc p r w v offender-chosen)) in
           let f = s .0 in
-          inr
-          (unmatched q r w′ w nested v f (and-l (inRow doc r v f) (p f) (s .1 .passes)) (and-r (inRow doc r v f) (p f) (s .1 .passes))
-          (not-true (any (sharesOnly doc p r v q) 0 (doc .size)) (and-r (eqb (values doc p r v) 1) lone t))))
+          let i = and-l (inRow doc r v f) (p f) (s .1 .passes) in
+          let e = and-r (inRow doc r v f) (p f) (s .1 .passes) in
+          ⊎-elim
+          (λ n. inr (spoilt-by doc p r v (inr k) offender-here (nil-given doc p r v f (s .1 .below) (gives-of r w v f i e) n)))
+          (λ n. inl (inr (unmatched q r w′ w nested v f i e (not-true (any (sharesOnly doc p r v q) 0 (doc .size)) (and-r (eqb (values doc p r v) 1) lone t)) n)))
+          (went (isNil doc f)))
           (or-cases (ltb 1 (values doc p r v)) (eqb (values doc p r v) 1 && lone) (broken 3 k))
 
       -- too few or too many field versions
@@ -212,11 +223,11 @@ module _ (doc : Doc) (p : ℕ → Bool) where
           count-same _ _ 0 (doc .size) (λ f a b. rw (offender-chosen, w f, and-true (fieldOf doc r v f))) in
           record { v = v; chosen = offender-chosen; here = offender-present; outside = outside-within r low high (held doc p r v) l h (rw same at (broken 4 k)) }
 
-      -- a present one with a value that is no number, or outside the rule's min..max
-      wrong-some : ((f : ℕ) → wants doc r f ≡ (valued doc f && not (isNumber doc f && within r (doc .value f)))) → datatype doc p r v ≡ true → Some doc p r
+      -- a present one with a value that is no nil, and no number or outside the rule's min..max
+      wrong-some : ((f : ℕ) → wants doc r f ≡ (valued doc f && not (isNil doc f || (isNumber doc f && within r (doc .value f))))) → datatype doc p r v ≡ true → Some doc p r
       unfolding datatype gives inRow
       wrong-some w e =
-          let wrong : ℕ → Bool = λ f. not (isNumber doc f && within r (doc .value f)) in
+          let wrong : ℕ → Bool = λ f. not (isNil doc f || (isNumber doc f && within r (doc .value f))) in
           let found = any-true (λ f. gives doc p r v f && wrong f) 0 (doc .size) e in
           let f = found .0 in
           let given = and-l (gives doc p r v f) (wrong f) (found .1 .passes) in

@@ -24,7 +24,7 @@ use Rattle.parts.specs.Ground.{Ground}
 use Rattle.parts.specs.Keyed.{Numbered}
 use Rattle.parts.specs.Parts.{ByTwice, ByShared, ByUnheld, ByFew, ByFewValues, BelowWhole, Small}
 use Rattle.parts.specs.Matched.{ByUnmatched}
-use Rattle.soonest.specs.Soon.{Soon}
+use Rattle.soonest.specs.Soon.{SoonAside}
 use Rattle.soonest.specs.Swept.{Swept}
 use Rattle.soonest.proofs.Sweeping.{ordered, grounded, row-of}
 use Rattle.soonest.proofs.DaySoon.{unique-days, key-days, reference-days, cardinality-days, datatype-days}
@@ -104,19 +104,19 @@ module _ (doc : Doc) (q r : Rule) (places : Places) (order closes chosen rows ot
     number-ends-by = rw (← e) (number-ends groups nums (rw e each))
 
   module _ (sequenced : isSequenced r ≡ true) (D n : ℕ) (e : doc .size ≡ n) where
-    pub unique-found : kind ≡ 2 → ByTwice order rows lo hi n D → ByShared order rows reps rows lo hi n D → Soon doc q r places D
+    pub unique-found : kind ≡ 2 → ByTwice order rows lo hi n D → ByShared order rows reps rows lo hi n D → SoonAside doc q r places D
     unique-found k twice shared =
         unique-days doc q r places order lo hi (s .lined) (s .judgeable) sequenced rows (s .rows-are) (s .rows-in) D reps (s .represents) (rw (← e) at twice) (rw (← e) at shared)
         (sym (s .kind-is) ∙ k)
 
-    pub reference-found : kind ≡ 3 → ByTwice order rows lo hi n D → ByUnmatched order rows others reps lo hi n D → Soon doc q r places D
+    pub reference-found : kind ≡ 3 → ByTwice order rows lo hi n D → ByUnmatched order rows others reps lo hi n D → SoonAside doc q r places D
     reference-found k twice unmatched =
         let is : r .kind ≡ 3 = sym (s .kind-is) ∙ k in
         let o = s .others-are (eq-eqb (r .kind) 3 is) in
         reference-days doc q r places order lo hi (s .lined) (s .judgeable) sequenced rows (s .rows-are) (s .rows-in) D reps (s .represents) others (o .0) (s .others-in (eq-eqb (r .kind) 3 is)) (o .1)
         (rw (← e) at twice) (rw (← e) at unmatched) is
 
-    pub datatype-found : 5 ≤ kind → ByLeast order rows lo hi n D → Soon doc q r places D
+    pub datatype-found : 5 ≤ kind → ByLeast order rows lo hi n D → SoonAside doc q r places D
     datatype-found k least =
         datatype-days doc q r places order lo hi (s .lined) (s .judgeable) sequenced rows (s .rows-are) (s .rows-in) D (rw (← e) at least) (omega (arith, s .kind-is))
 
@@ -124,20 +124,20 @@ module _ (doc : Doc) (q r : Rule) (places : Places) (order closes chosen rows ot
       numbers : (x : ℕ) → x < doc .size → at own x ≡ x
       numbers x h = numbered .key x (omega arith)
 
-      pub cardinality-found : kind ≡ 4 → (whole : ℕ) → 65535 ≤ whole → BelowWhole (ByFew order chosen own rows lo hi n low) whole D → ByMany rows lo hi n high D → Soon doc q r places D
+      pub cardinality-found : kind ≡ 4 → (whole : ℕ) → 65535 ≤ whole → BelowWhole (ByFew order chosen own rows lo hi n low) whole D → ByMany rows lo hi n high D → SoonAside doc q r places D
       cardinality-found k whole all few many =
           let is : r .kind ≡ 4 = sym (s .kind-is) ∙ k in
           let b = s .bounds is in
           cardinality-days doc q r places order lo hi (s .lined) (s .judgeable) sequenced rows (s .rows-are) (s .rows-in) D chosen own (s .chosen-are) (s .chosen-in (inr k)) numbers low high (b .0) (b .1)
           whole (omega (arith, s .counted .count-most)) (rw (← e) at few) (rw (← e) at many) is
 
-      pub key-found : kind ≡ 1 → ByFew order chosen own rows lo hi n 1 D → ByTwice order rows lo hi n D → ByShared order rows reps rows lo hi n D → Soon doc q r places D
+      pub key-found : kind ≡ 1 → ByFew order chosen own rows lo hi n 1 D → ByTwice order rows lo hi n D → ByShared order rows reps rows lo hi n D → SoonAside doc q r places D
       key-found k few twice shared =
           key-days doc q r places order lo hi (s .lined) (s .judgeable) sequenced rows (s .rows-are) (s .rows-in) D reps (s .represents) (rw (← e) at twice) (rw (← e) at shared)
           chosen own (s .chosen-are) (s .chosen-in (inl k)) numbers (rw (← e) at few) (sym (s .kind-is) ∙ k)
 
   module _ (windowed : isSequenced r ≡ false) (D n : ℕ) (e : doc .size ≡ n) where
-    pub reference-met : kind ≡ 3 → ByUnheld order rows others reps lo hi n D → Soon doc q r places D
+    pub reference-met : kind ≡ 3 → ByUnheld order rows others reps lo hi n D → SoonAside doc q r places D
     reference-met k unheld =
         let is : r .kind ≡ 3 = sym (s .kind-is) ∙ k in
         let o = s .others-are (eq-eqb (r .kind) 3 is) in
@@ -147,12 +147,12 @@ module _ (doc : Doc) (q r : Rule) (places : Places) (order closes chosen rows ot
       each-here : (f : ℕ) → f < doc .size → at nums f ≡ classAt groups (doc .size) (at rows f)
       each-here = rw e each
 
-      pub unique-met : kind ≡ 2 → ByShared order rows reps nums lo hi n D → Soon doc q r places D
+      pub unique-met : kind ≡ 2 → ByShared order rows reps nums lo hi n D → SoonAside doc q r places D
       unique-met k shared =
           unique-windows doc q r places order lo hi (s .lined) (s .judgeable) windowed rows (s .rows-are) (s .rows-in) D groups nums classes each-here reps (s .represents) (rw (← e) at shared)
           (sym (s .kind-is) ∙ k)
 
-      pub key-met : (own : List ℕ) → Numbered n own → kind ≡ 1 → ByFew order chosen own rows lo hi n 1 D → ByShared order rows reps nums lo hi n D → Soon doc q r places D
+      pub key-met : (own : List ℕ) → Numbered n own → kind ≡ 1 → ByFew order chosen own rows lo hi n 1 D → ByShared order rows reps nums lo hi n D → SoonAside doc q r places D
       key-met own numbered k few shared =
           key-windows doc q r places order lo hi (s .lined) (s .judgeable) windowed rows (s .rows-are) (s .rows-in) D groups nums classes each-here reps (s .represents) (rw (← e) at shared)
           chosen own (s .chosen-are) (s .chosen-in (inl k)) (λ x h. numbered .key x (omega arith)) (rw (← e) at few) (sym (s .kind-is) ∙ k)
@@ -162,13 +162,13 @@ module _ (doc : Doc) (q r : Rule) (places : Places) (order closes chosen rows ot
         of-four : r .kind ≡ 4
         of-four = sym (s .kind-is) ∙ k
 
-        pub cardinality-met : (distinct ≡ 1 → ⊥) → BelowWhole (ByFew order chosen groups nums lo hi n low) whole D → ByMany nums lo hi n high D → Soon doc q r places D
+        pub cardinality-met : (distinct ≡ 1 → ⊥) → BelowWhole (ByFew order chosen groups nums lo hi n low) whole D → ByMany nums lo hi n high D → SoonAside doc q r places D
         cardinality-met every few many =
             let b = s .bounds of-four in
             cardinality-windows doc q r places order lo hi (s .lined) (s .judgeable) windowed rows (s .rows-are) (s .rows-in) D groups nums classes each-here chosen (s .chosen-are) (s .chosen-in (inr k)) low high
             (ne-eqb (r .distinct) 1 (λ e. every (told ∙ e))) (b .0) (b .1) (s .counted) whole is-whole (rw (← e) at few) (rw (← e) at many) of-four
 
-        pub values-met : distinct ≡ 1 → BelowWhole (ByFewValues order chosen groups nums reps lo hi n low) whole D → ByManyValues nums reps lo hi n high D → Soon doc q r places D
+        pub values-met : distinct ≡ 1 → BelowWhole (ByFewValues order chosen groups nums reps lo hi n low) whole D → ByManyValues nums reps lo hi n high D → SoonAside doc q r places D
         values-met one few many =
             let b = s .bounds of-four in
             value-windows doc q r places order lo hi (s .lined) (s .judgeable) windowed rows (s .rows-are) (s .rows-in) D groups nums classes each-here reps (s .represents) chosen (s .chosen-are) (s .chosen-in (inr k)) low high

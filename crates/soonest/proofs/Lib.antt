@@ -9,4 +9,5 @@ pub mod DaySoon
 pub mod Valuing
 pub mod WindowSoon
 pub mod Finding
+pub mod Spoiling
 pub mod Lining

@@ -18,6 +18,7 @@ use Rattle.meaning.proofs.Walks.{count-same}
 use Rattle.meaning.proofs.Selects.{version-here, selected-here, field-version}
 use Rattle.marks.specs.Marks.{Marks}
 use Rattle.values.specs.Represents.{Represents}
+use Rattle.values.proofs.Equals.{known-same}
 use Rattle.prepare.specs.Rows.{wants, inRow}
 use Rattle.prepare.specs.Keys.{Keys}
 use Rattle.passes.specs.Passes.{at, On, Present, ByLeast}
@@ -170,7 +171,7 @@ module _ (doc : Doc) (places : Places) (order lo hi : List ℕ) (lined : Lined d
         b (s .f) (s .g) k (on-order (s .f) mf) (on-order (s .g) mg)
         (omega (arith, row-held doc r (s .u) (s .f) (s .first)))
         (omega (arith, row-held doc r (s .v) (s .g) (s .second)))
-        (eqb-true (at reps (s .f)) (at reps (s .g)) (sym (represents .same (s .f) (s .g) (is-version (s .f) mf) (is-version (s .g) mg)) ∙ s .same))
+        (eqb-true (at reps (s .f)) (at reps (s .g)) (sym (represents .same (s .f) (s .g) (is-version (s .f) mf) (is-version (s .g) mg) (λ e. s .apart (ap owner (sym f ∙ ap (at rows) e ∙ g)))) ∙ s .same))
         (λ e. s .apart (tells (s .u) (s .v) (s .f) (s .g) (s .first) (s .second) e))
         (here (s .f) mf (s .first-here))
         (here (s .g) mg (s .second-here))
@@ -229,7 +230,7 @@ module _ (doc : Doc) (places : Places) (order lo hi : List ℕ) (lined : Lined d
         let its = on-member y o in
         let is = is-version y its in
         s .none (at others y) y (row-of doc q others other-keys (at others y) y low (version-here doc y is) refl) (back y its p)
-        (represents .same (s .f) y (is-version (s .f) m) is ∙ eq-eqb (at reps (s .f)) (at reps y) (sym e)))
+        (known-same represents (s .f) y (is-version (s .f) m) is (s .known) ∙ eq-eqb (at reps (s .f)) (at reps y) (sym e)))
 
     -- a present one has a value that no present one which is alone in a row of the other rule has
     pub unmatched-soon : RowsIn doc (lined .begun .member) q → (D : ℕ) → ByUnmatched order rows others reps lo hi (doc .size) D → Unmatched doc there r q → D ≤ k
@@ -242,7 +243,7 @@ module _ (doc : Doc) (places : Places) (order lo hi : List ℕ) (lined : Lined d
         let its = on-member y (a .on) in
         let is = is-version y its in
         s .none (at others y) y (row-of doc q others other-keys (at others y) y low (version-here doc y is) refl) (back y its (a .here))
-        (represents .same (s .f) y (is-version (s .f) m) is ∙ eq-eqb (at reps (s .f)) (at reps y) (sym e))
+        (known-same represents (s .f) y (is-version (s .f) m) is (s .known) ∙ eq-eqb (at reps (s .f)) (at reps y) (sym e))
         (λ h j d.
         let o = other-read (at others y) h j in
         a .only h (on-order h o) (row-is doc q others other-keys (at others y) h j) (here h o d)))

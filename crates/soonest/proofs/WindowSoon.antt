@@ -1,6 +1,6 @@
 -- A non-sequenced rule of each kind: what the passes promise of each part of its offence is that no version offends at an earlier place.
 use mathlib.Core.Path.{_≡_, refl, sym, ap, _∙_}
-use mathlib.Core.Logic.{_⊎_, ⊎-elim}
+use mathlib.Core.Logic.{_⊎_, inl, ⊎-elim, ⊎-map}
 use mathlib.Core.Bool.{true, false, _&&_}
 use mathlib.Core.List.{List}
 use Prim.Native.Nat.{ℕ, _≤_, _<_}
@@ -20,6 +20,7 @@ use Rattle.marks.specs.Marks.{Marks}
 use Rattle.values.specs.Represents.{Represents}
 use Rattle.prepare.specs.Rows.{wants, inRow}
 use Rattle.prepare.specs.Keys.{Keys}
+use Rattle.prepare.specs.Spoiling.{spoils}
 use Rattle.groups.specs.Groups.{Groups}
 use Rattle.groups.specs.Classes.{classAt}
 use Rattle.groups.proofs.Gathering.{class-here}
@@ -28,7 +29,7 @@ use Rattle.places.specs.declared.Places.{Places}
 use Rattle.places.proofs.Days.{least-above}
 use Rattle.places.proofs.Shortened.{shortened-at}
 use Rattle.places.specs.Placing.{startOf, endOf, windowAt, Counted, High}
-use Rattle.soonest.specs.Soon.{offendsAt, Soon}
+use Rattle.soonest.specs.Soon.{offendsAt, Soon, SoonAside}
 use Rattle.soonest.specs.Lined.{Begun, Lined, ChosenIn, RowsIn}
 use Rattle.soonest.specs.Given.{Reaching}
 use Rattle.crowds.specs.Crowds.{ByMany}
@@ -38,14 +39,18 @@ use Rattle.soonest.proofs.Nested.{meets-nested}
 use Rattle.soonest.proofs.WindowOffences.{key-offence, unique-offence, reference-offence, cardinality-offence, counted-offence, fewer-present, datatype-offence}
 use Rattle.soonest.proofs.Sweeping.{stands, row-is, row-held, row-chosen, row-here, shared-soon, few-numbered, many-numbered, lacks-soon, unheld-soon}
 use Rattle.soonest.proofs.Valuing.{few-valued, many-valued}
-use Rattle.soonest.proofs.DaySoon.{soon-from}
+use Rattle.soonest.proofs.DaySoon.{soon-from, aside-from}
 
 module _ (doc : Doc) (q r : Rule) (places : Places) (order lo hi : List ℕ) (lined : Lined doc places order lo hi) (judgeable : Judgeable doc)
     (windowed : isSequenced r ≡ false) (rows : List ℕ) (keys : Keys doc r rows) (read : RowsIn doc (lined .begun .member) r) (D : ℕ) where
   -- an offence as in a window
-  in-window : ((k v : ℕ) → k < places .count → offendsIn doc (meets doc (windowAt places k)) (windowAt places k) q r v ≡ true → D ≤ k) → Soon doc q r places D
+  or-nil : ((k v : ℕ) → k < places .count → offendsIn doc (meets doc (windowAt places k)) (windowAt places k) q r v ≡ true → (D ≤ k) ⊎ (spoils doc (meets doc (windowAt places k)) r v ≡ true))
+      → SoonAside doc q r places D
   unfolding offendsAt
-  in-window late = soon-from doc q r places D (λ k v h e. late k v h (rw windowed at e))
+  or-nil late = aside-from doc q r places D (λ k v h e. late k v h (rw windowed at e))
+
+  in-window : ((k v : ℕ) → k < places .count → offendsIn doc (meets doc (windowAt places k)) (windowAt places k) q r v ≡ true → D ≤ k) → SoonAside doc q r places D
+  in-window late = or-nil (λ k v h e. inl (late k v h e))
 
   -- the classes of the rows' item numbers
   module _ (groups nums : List ℕ) (classes : Groups doc groups) (each : (f : ℕ) → f < doc .size → at nums f ≡ classAt groups (doc .size) (at rows f)) where
@@ -62,21 +67,23 @@ module _ (doc : Doc) (q r : Rule) (places : Places) (order lo hi : List ℕ) (li
 
     -- one value of two item numbers
     module _ (reps : List ℕ) (represents : Represents doc reps) (shared : ByShared order rows reps nums lo hi (doc .size) D) where
-      pub unique-windows : r .kind ≡ 2 → Soon doc q r places D
+      pub unique-windows : r .kind ≡ 2 → SoonAside doc q r places D
       unique-windows kind =
           in-window (λ k v h e.
           shared-soon doc places order lo hi lined k h r rows keys read reps represents (numberOf doc) nums numbers-tell D shared
-          (unique-offence doc (meets doc (windowAt places k)) (windowAt places k) q r windowed v e kind))
+          (unique-offence doc (meets doc (windowAt places k)) (windowAt places k) q r v e kind))
 
       -- or no value
       pub key-windows : (chosen own : List ℕ) → Marks (selected doc r) (doc .size) chosen → ChosenIn doc (lined .begun .member) r → ((x : ℕ) → x < doc .size → at own x ≡ x)
-          → ByFew order chosen own rows lo hi (doc .size) 1 D → r .kind ≡ 1 → Soon doc q r places D
+          → ByFew order chosen own rows lo hi (doc .size) 1 D → r .kind ≡ 1 → SoonAside doc q r places D
       key-windows chosen own marks chosen-in numbers few kind =
-          in-window (λ k v h e.
-          ⊎-elim
+          or-nil (λ k v h e.
+          ⊎-map
+          (⊎-elim
           (lacks-soon doc places order lo hi lined k h r rows keys read chosen own marks chosen-in numbers D few)
-          (shared-soon doc places order lo hi lined k h r rows keys read reps represents (numberOf doc) nums numbers-tell D shared)
-          (key-offence doc (meets doc (windowAt places k)) (windowAt places k) q r windowed v e kind))
+          (shared-soon doc places order lo hi lined k h r rows keys read reps represents (numberOf doc) nums numbers-tell D shared))
+          (λ s. s)
+          (key-offence doc (meets doc (windowAt places k)) (windowAt places k) q r v e kind))
 
     -- no minimum is asked from place `whole` on
     module _ (whole : ℕ) (is-whole : whole ≡ places .whole) (counted : Counted places) (k : ℕ) (h : k < places .count) (long : shortened (windowAt places k) ≡ false) where
@@ -89,7 +96,7 @@ module _ (doc : Doc) (q r : Rule) (places : Places) (order lo hi : List ℕ) (li
     -- under an item number too few, or too many, where every version counts
     pub cardinality-windows : (chosen : List ℕ) → Marks (selected doc r) (doc .size) chosen → ChosenIn doc (lined .begun .member) r → (low high : ℕ) → eqb (r .distinct) 1 ≡ false
         → pos low ≡ r .low → pos high ≡ r .high → Counted places → (whole : ℕ) → whole ≡ places .whole → BelowWhole (ByFew order chosen groups nums lo hi (doc .size) low) whole D
-        → ByMany nums lo hi (doc .size) high D → r .kind ≡ 4 → Soon doc q r places D
+        → ByMany nums lo hi (doc .size) high D → r .kind ≡ 4 → SoonAside doc q r places D
     cardinality-windows chosen marks chosen-in low high every l m counted whole is-whole few many kind =
         in-window (λ k v h e.
         let p = meets doc (windowAt places k) in
@@ -98,7 +105,7 @@ module _ (doc : Doc) (q r : Rule) (places : Places) (order lo hi : List ℕ) (li
         let s = t .1 in
         sooner-whole whole is-whole counted k h (t .0) _ few
         (few-numbered doc places order lo hi lined k h r rows keys read groups nums (judgeable .few) classes each (s .v) (s .chosen) chosen marks chosen-in low (few .place) (few .promised) (s .here)
-        (fewer-present doc p (windowAt places k) q r windowed low high (meets-nested doc judgeable (windowAt places k) r) every s)))
+        (fewer-present doc p (windowAt places k) q r windowed low high kind (meets-nested doc judgeable (windowAt places k) r) every s)))
         (λ s.
         many-numbered doc places order lo hi lined k h r rows keys read groups nums (judgeable .few) classes each (s .v) (s .chosen) high D many (s .more))
         (cardinality-offence doc p (windowAt places k) q r windowed low high l m kind v e))
@@ -106,7 +113,7 @@ module _ (doc : Doc) (q r : Rule) (places : Places) (order lo hi : List ℕ) (li
     -- too few values, or too many, where values are counted
     pub value-windows : (reps : List ℕ) → Represents doc reps → (chosen : List ℕ) → Marks (selected doc r) (doc .size) chosen → ChosenIn doc (lined .begun .member) r → (low high : ℕ)
         → eqb (r .distinct) 1 ≡ true → pos low ≡ r .low → pos high ≡ r .high → Counted places → (whole : ℕ) → whole ≡ places .whole
-        → BelowWhole (ByFewValues order chosen groups nums reps lo hi (doc .size) low) whole D → ByManyValues nums reps lo hi (doc .size) high D → r .kind ≡ 4 → Soon doc q r places D
+        → BelowWhole (ByFewValues order chosen groups nums reps lo hi (doc .size) low) whole D → ByManyValues nums reps lo hi (doc .size) high D → r .kind ≡ 4 → SoonAside doc q r places D
     value-windows reps represents chosen marks chosen-in low high distinct l m counted whole is-whole few many kind =
         in-window (λ k v h e.
         let p = meets doc (windowAt places k) in
@@ -115,19 +122,21 @@ module _ (doc : Doc) (q r : Rule) (places : Places) (order lo hi : List ℕ) (li
         (λ t.
         let s = t .1 in
         sooner-whole whole is-whole counted k h (t .0) _ few
-        (few-valued doc places order lo hi lined k h r windowed held distinct rows keys read groups nums reps (judgeable .few) classes represents each (s .v) (s .chosen) chosen marks chosen-in low
+        (few-valued doc places order lo hi lined k h r windowed kind held distinct rows keys read groups nums reps (judgeable .few) classes represents each (s .v) (s .chosen) chosen marks chosen-in low
         (few .place) (few .promised) (s .here) (s .fewer)))
         (λ s.
-        many-valued doc places order lo hi lined k h r windowed held distinct rows keys read groups nums reps (judgeable .few) classes represents each (s .v) (s .chosen) high D many (s .beyond))
+        many-valued doc places order lo hi lined k h r windowed kind held distinct rows keys read groups nums reps (judgeable .few) classes represents each (s .v) (s .chosen) high D many (s .beyond))
         (counted-offence doc p (windowAt places k) q r windowed low high l m kind v e))
 
   -- a value that no row of the other rule has
   pub reference-windows : (reps : List ℕ) → Represents doc reps → (others : List ℕ) → Keys doc q others → ((f : ℕ) → wants doc q f ≡ valued doc f)
-      → ByUnheld order rows others reps lo hi (doc .size) D → r .kind ≡ 3 → Soon doc q r places D
+      → ByUnheld order rows others reps lo hi (doc .size) D → r .kind ≡ 3 → SoonAside doc q r places D
   reference-windows reps represents others other-keys wanted unheld kind =
-      in-window (λ k v h e.
-      unheld-soon doc places order lo hi lined k h r q rows others reps keys other-keys represents read D unheld
-      (reference-offence doc (meets doc (windowAt places k)) (windowAt places k) q r windowed v e wanted (meets-nested doc judgeable (windowAt places k) q) kind))
+      or-nil (λ k v h e.
+      ⊎-map
+      (unheld-soon doc places order lo hi lined k h r q rows others reps keys other-keys represents read D unheld)
+      (λ s. s)
+      (reference-offence doc (meets doc (windowAt places k)) (windowAt places k) q r v e wanted (meets-nested doc judgeable (windowAt places k) q) kind))
 
 -- a value that is no number, or a wrong step from one that the window reaches back to
 pub datatype-windows : (doc : Doc) (q r : Rule) (places : Places) (order lo rows until : List ℕ) (n D : ℕ) → ByLeast order rows lo until n D → doc .size ≡ n

@@ -3,3 +3,4 @@ pub mod Soon
 pub mod Lined
 pub mod Swept
 pub mod Given
+pub mod Nils

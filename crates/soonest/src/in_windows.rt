@@ -1,4 +1,4 @@
-// The soonest window of a non-sequenced rule in which it can fail, by its kind.
+// The soonest window of a non-sequenced rule in which it can fail, by its kind, nils aside.
 use parts::by_value;
 use parts::counts;
 use parts::holders;
@@ -20,7 +20,7 @@ ghost use Rattle.places.specs.declared.Places.{Places};
 ghost use Rattle.parts.specs.Keyed.{Numbered};
 ghost use Rattle.parts.specs.Ground.{Ground};
 ghost use Rattle.parts.specs.Parts.{ByShared, ByFew, Small, Room};
-ghost use Rattle.soonest.specs.Soon.{Soon};
+ghost use Rattle.soonest.specs.Soon.{SoonAside};
 ghost use Rattle.soonest.specs.Swept.{Swept};
 
 // A key: no value, or one value of two item numbers. `column` is lent for the records' own numbers and then for the classes of their rows.
@@ -50,7 +50,7 @@ fn key(
     )
 }
 
-// The soonest window, from 0, of a rule that is no datatype: nothing offends in any window before it. Four columns are lent, two for keys and two for
+// The soonest window, from 0, of a rule that is no datatype: nils aside, nothing offends in any window before it. Four columns are lent, two for keys and two for
 // what a sweep keeps by key; what they hold beforehand is of no account. From window `whole` on they are shortened, and no minimum is asked. Cost: that of the
 // parts that the kind has, and a pass over the records for the classes of their rows.
 pub fn in_windows(
@@ -75,7 +75,7 @@ pub fn in_windows(
     holder: &mut [u16],
 ) -> u16
     requires { ⌜ Room n (now number) (now value) (now top) (now holder) × ((doc : Doc) × (q : Rule) × (r : Rule) × (places : Places) × Swept doc q r places (now order) (now closes) (now chosen) (now row) (now other) (now rep) (now lo) (now hi) kind low high × Groups doc (now group) × (doc .size ≡ n)) ⌝ }
-    ensures { λ x. ⌜ ((doc : Doc) → (q r : Rule) → (places : Places) → Swept doc q r places (now (order .entry)) (now (closes .entry)) (now (chosen .entry)) (now (row .entry)) (now (other .entry)) (now (rep .entry)) (now (lo .entry)) (now (hi .entry)) kind low high → Groups doc (now (group .entry)) → doc .size ≡ n → isSequenced r ≡ false → (5 ≤ kind → ⊥) → distinct ≡ r .distinct → whole ≡ places .whole → Soon doc q r places x) ⌝ }
+    ensures { λ x. ⌜ ((doc : Doc) → (q r : Rule) → (places : Places) → Swept doc q r places (now (order .entry)) (now (closes .entry)) (now (chosen .entry)) (now (row .entry)) (now (other .entry)) (now (rep .entry)) (now (lo .entry)) (now (hi .entry)) kind low high → Groups doc (now (group .entry)) → doc .size ≡ n → isSequenced r ≡ false → (5 ≤ kind → ⊥) → distinct ≡ r .distinct → whole ≡ places .whole → SoonAside doc q r places x) ⌝ }
 {
     if kind == 3 {
         return holders::unheld(

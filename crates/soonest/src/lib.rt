@@ -1,6 +1,7 @@
 // The soonest place at which a rule can fail: at no place before it does a version offend. It is found in one sweep over the versions that the rule
 // reads, in the order of their begins, for each part of an offence, and only that one-sided fact is promised: at the place itself the rule may hold.
 use meaning::Rule;
+use parts::sooner;
 use places::Places;
 ghost use mathlib.Core.Path.{_≡_};
 ghost use mathlib.Core.Bool.{true};
@@ -16,7 +17,8 @@ ghost use Rattle.soonest.specs.Swept.{Asks};
 pub mod on_days; // on_days.rt: a sequenced rule, by its kind
 pub mod in_windows; // in_windows.rt: a non-sequenced rule, by its kind
 pub mod stepping; // stepping.rt: a datatype in windows
-pub mod sweeps; // sweeps.rt: every other rule, lined up and swept
+pub mod sweeps; // sweeps.rt: every other rule, lined up and swept, nils aside
+pub mod nils; // nils.rt: the nils that a key and a reference do not take
 
 // The mark of the selected versions that the kind looks at themselves: 1 for a key and a cardinality; for the others one that no version has.
 fn asked(kind: u8) -> u8
@@ -33,7 +35,8 @@ fn asked(kind: u8) -> u8
 
 // The soonest place at which the rule can fail, 65,535 where it fails at none: no version offends at any place before it. What the rule picks out
 // is in `chosen` and `row`, and in `other` the rows of the rule that it refers to, if it is a reference. Cost: a pass over the records, one along
-// the versions by begin, for a cardinality one by end, the places of each one that is read, and that of the parts that the kind has.
+// the versions by begin, for a cardinality one by end, for a key and a reference one for nils, the places of each one that is read, and that of the parts
+// that the kind has.
 pub fn soonest(
     vkind: &[u8],
     value: &[i32],
@@ -70,7 +73,7 @@ pub fn soonest(
             rule,
         );
     }
-    sweeps::sweeping(
+    let swept = sweeps::sweeping(
         begin,
         end,
         rep,
@@ -83,5 +86,9 @@ pub fn soonest(
         table,
         at,
         rule,
+    );
+    sooner(
+        swept,
+        nils::soonest_nil(vkind, row, begin, end, opens, table, at, rule),
     )
 }

@@ -1,4 +1,4 @@
-// The soonest day of a sequenced rule's period on which it can fail, by its kind.
+// The soonest day of a sequenced rule's period on which it can fail, by its kind, nils aside.
 use numbers::index;
 use parts::alone;
 use parts::counts;
@@ -20,7 +20,7 @@ ghost use Rattle.parts.specs.Keyed.{Numbered};
 ghost use Rattle.parts.specs.Ground.{Ground};
 ghost use Rattle.parts.specs.Parts.{ByTwice, ByShared, ByFew, Small, Room};
 ghost use Rattle.parts.specs.Matched.{ByUnmatched};
-ghost use Rattle.soonest.specs.Soon.{Soon};
+ghost use Rattle.soonest.specs.Soon.{SoonAside};
 ghost use Rattle.soonest.specs.Swept.{Swept};
 
 // A unique: two values in a row, or one value in two rows; `own` has each record's own number.
@@ -91,7 +91,7 @@ fn key(
     )
 }
 
-// The soonest day, counted from the period's first: nothing offends on any day before it. Four columns are lent, two for keys and two for what a
+// The soonest day, counted from the period's first: nils aside, nothing offends on any day before it. Four columns are lent, two for keys and two for what a
 // sweep keeps by key; what they hold beforehand is of no account. Cost: that of the parts that the kind has.
 pub fn on_days(
     kind: u8,
@@ -112,7 +112,7 @@ pub fn on_days(
     holder: &mut [u16],
 ) -> u16
     requires { ⌜ Room n (now own) (now value) (now top) (now holder) × ((doc : Doc) × (q : Rule) × (r : Rule) × (places : Places) × Swept doc q r places (now order) (now closes) (now chosen) (now row) (now other) (now rep) (now lo) (now hi) kind low high × (doc .size ≡ n)) ⌝ }
-    ensures { λ x. ⌜ ((doc : Doc) → (q r : Rule) → (places : Places) → Swept doc q r places (now (order .entry)) (now (closes .entry)) (now (chosen .entry)) (now (row .entry)) (now (other .entry)) (now (rep .entry)) (now (lo .entry)) (now (hi .entry)) kind low high → doc .size ≡ n → isSequenced r ≡ true → Soon doc q r places x) ⌝ }
+    ensures { λ x. ⌜ ((doc : Doc) → (q r : Rule) → (places : Places) → Swept doc q r places (now (order .entry)) (now (closes .entry)) (now (chosen .entry)) (now (row .entry)) (now (other .entry)) (now (rep .entry)) (now (lo .entry)) (now (hi .entry)) kind low high → doc .size ≡ n → isSequenced r ≡ true → SoonAside doc q r places x) ⌝ }
 {
     if 5 <= kind {
         return passes::least(order, row, lo, hi, n);

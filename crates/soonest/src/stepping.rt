@@ -15,6 +15,7 @@ ghost use Rattle.meaning.specs.Document.{Doc};
 ghost use Rattle.meaning.specs.Window.{least};
 ghost use Rattle.meaning.specs.Rules.{isSequenced, ruleFields};
 ghost use Rattle.columns.specs.Judgeable.{Judgeable};
+ghost use Rattle.prepare.specs.Rows.{KnownOnly};
 ghost use Rattle.places.specs.Placing.{Counted};
 ghost use Rattle.steps.specs.Places.{Closing};
 ghost use Rattle.passes.specs.Passes.{Covers};
@@ -60,8 +61,8 @@ fn reaching(
     rule: Rule,
     until: &mut [u16],
 )
-    requires { ⌜ MonthTable (now table) × Counted at × Covers (now order) (now begin) × (length (now begin) ≤ length (now until)) × ((doc : Doc) × Closing doc rule (now vkind) (now value) (now begin) (now end) (now row) (now group) (now closes) × Judgeable doc × (isSequenced rule ≡ false)) ⌝ }
-    ensures { λ x. ⌜ ((doc : Doc) → Closing doc rule (now (vkind .entry)) (now (value .entry)) (now (begin .entry)) (now (end .entry)) (now (row .entry)) (now (group .entry)) (now (closes .entry)) → Judgeable doc → isSequenced rule ≡ false → Reaching doc rule at (now (order .entry)) (now (until .exit))) ⌝ }
+    requires { ⌜ MonthTable (now table) × Counted at × Covers (now order) (now begin) × (length (now begin) ≤ length (now until)) × ((doc : Doc) × Closing doc rule (now vkind) (now value) (now begin) (now end) (now row) (now group) (now closes) × Judgeable doc) ⌝ }
+    ensures { λ x. ⌜ ((doc : Doc) → Closing doc rule (now (vkind .entry)) (now (value .entry)) (now (begin .entry)) (now (end .entry)) (now (row .entry)) (now (group .entry)) (now (closes .entry)) → Judgeable doc → KnownOnly doc rule → Reaching doc rule at (now (order .entry)) (now (until .exit))) ⌝ }
 {
     let reach = steps::reaches_swept(
         vkind,

@@ -1,4 +1,4 @@
-// Every other rule: what it reads is lined up, by begin and for a cardinality by end too, with its places, and swept by its mode and kind.
+// Every other rule: what it reads is lined up, by begin and for a cardinality by end too, with its places, and swept by its mode and kind, nils aside.
 use crate::asked;
 use crate::in_windows;
 use crate::on_days;
@@ -21,7 +21,7 @@ ghost use Rattle.groups.specs.Groups.{Groups};
 ghost use Rattle.places.specs.declared.Places.{Places};
 ghost use Rattle.soonest.specs.Given.{Given};
 ghost use Rattle.parts.specs.Parts.{Room};
-ghost use Rattle.soonest.specs.Soon.{Soon};
+ghost use Rattle.soonest.specs.Soon.{SoonAside};
 ghost use Rattle.soonest.specs.Swept.{Swept};
 
 // The soonest place of a rule that is no datatype in windows, by its mode, with four columns lent: what it reads is in `order`, and for a cardinality in
@@ -47,7 +47,7 @@ fn swept_lent(
     holder: &mut [u16],
 ) -> u16
     requires { ⌜ Room n (now own) (now value) (now top) (now holder) × ((doc : Doc) × (q : Rule) × (at : Places) × Swept doc q rule at (now order) (now closes) (now chosen) (now row) (now other) (now rep) (now lo) (now hi) (rule .kind) low high × Groups doc (now group) × (doc .size ≡ n)) ⌝ }
-    ensures { λ x. ⌜ ((doc : Doc) → (q : Rule) → (at : Places) → Swept doc q rule at (now (order .entry)) (now (closes .entry)) (now (chosen .entry)) (now (row .entry)) (now (other .entry)) (now (rep .entry)) (now (lo .entry)) (now (hi .entry)) (rule .kind) low high → Groups doc (now (group .entry)) → doc .size ≡ n → (isSequenced rule ≡ false → 5 ≤ rule .kind → ⊥) → whole ≡ at .whole → Soon doc q rule at x) ⌝ }
+    ensures { λ x. ⌜ ((doc : Doc) → (q : Rule) → (at : Places) → Swept doc q rule at (now (order .entry)) (now (closes .entry)) (now (chosen .entry)) (now (row .entry)) (now (other .entry)) (now (rep .entry)) (now (lo .entry)) (now (hi .entry)) (rule .kind) low high → Groups doc (now (group .entry)) → doc .size ≡ n → (isSequenced rule ≡ false → 5 ≤ rule .kind → ⊥) → whole ≡ at .whole → SoonAside doc q rule at x) ⌝ }
 {
     if rule.windowed == 0 {
         return on_days::on_days(
@@ -110,7 +110,7 @@ fn swept(
     whole: usize,
 ) -> u16
     requires { ⌜ (n ≤ limit) × ((doc : Doc) × (q : Rule) × (at : Places) × Swept doc q rule at (now order) (now closes) (now chosen) (now row) (now other) (now rep) (now lo) (now hi) (rule .kind) low high × Groups doc (now group) × (doc .size ≡ n)) ⌝ }
-    ensures { λ x. ⌜ ((doc : Doc) → (q : Rule) → (at : Places) → Swept doc q rule at (now (order .entry)) (now (closes .entry)) (now (chosen .entry)) (now (row .entry)) (now (other .entry)) (now (rep .entry)) (now (lo .entry)) (now (hi .entry)) (rule .kind) low high → Groups doc (now (group .entry)) → doc .size ≡ n → (isSequenced rule ≡ false → 5 ≤ rule .kind → ⊥) → whole ≡ at .whole → Soon doc q rule at x) ⌝ }
+    ensures { λ x. ⌜ ((doc : Doc) → (q : Rule) → (at : Places) → Swept doc q rule at (now (order .entry)) (now (closes .entry)) (now (chosen .entry)) (now (row .entry)) (now (other .entry)) (now (rep .entry)) (now (lo .entry)) (now (hi .entry)) (rule .kind) low high → Groups doc (now (group .entry)) → doc .size ≡ n → (isSequenced rule ≡ false → 5 ≤ rule .kind → ⊥) → whole ≡ at .whole → SoonAside doc q rule at x) ⌝ }
 {
     if n <= SMALL {
         let mut own = [0u16; SMALL];
@@ -186,7 +186,7 @@ fn sweeping_lent(
     ends: &mut [u16],
 ) -> u16
     requires { ⌜ Room (length (now begin)) (now read) (now order) (now lo) (now hi) × (length (now begin) ≤ length (now ends)) × MonthTable (now table) × (ruleFields rule ≡ true) × ((doc : Doc) × (q : Rule) × (vkinds : List ℕ) × (values : List ℤ) × Given doc q rule at vkinds values (now begin) (now end) (now rep) (now group) (now opens) (now closes) (now chosen) (now row) (now other)) ⌝ }
-    ensures { λ x. ⌜ ((doc : Doc) → (q : Rule) → (vkinds : List ℕ) → (values : List ℤ) → Given doc q rule at vkinds values (now (begin .entry)) (now (end .entry)) (now (rep .entry)) (now (group .entry)) (now (opens .entry)) (now (closes .entry)) (now (chosen .entry)) (now (row .entry)) (now (other .entry)) → (isSequenced rule ≡ false → 5 ≤ rule .kind → ⊥) → Soon doc q rule at x) ⌝ }
+    ensures { λ x. ⌜ ((doc : Doc) → (q : Rule) → (vkinds : List ℕ) → (values : List ℤ) → Given doc q rule at vkinds values (now (begin .entry)) (now (end .entry)) (now (rep .entry)) (now (group .entry)) (now (opens .entry)) (now (closes .entry)) (now (chosen .entry)) (now (row .entry)) (now (other .entry)) → (isSequenced rule ≡ false → 5 ≤ rule .kind → ⊥) → SoonAside doc q rule at x) ⌝ }
 {
     let n = begin.len();
     let bounds = day::terms::terms(rule);
@@ -247,7 +247,7 @@ pub fn sweeping(
     rule: Rule,
 ) -> u16
     requires { ⌜ MonthTable (now table) × (ruleFields rule ≡ true) × ((doc : Doc) × (q : Rule) × (vkinds : List ℕ) × (values : List ℤ) × Given doc q rule at vkinds values (now begin) (now end) (now rep) (now group) (now opens) (now closes) (now chosen) (now row) (now other)) ⌝ }
-    ensures { λ x. ⌜ ((doc : Doc) → (q : Rule) → (vkinds : List ℕ) → (values : List ℤ) → Given doc q rule at vkinds values (now (begin .entry)) (now (end .entry)) (now (rep .entry)) (now (group .entry)) (now (opens .entry)) (now (closes .entry)) (now (chosen .entry)) (now (row .entry)) (now (other .entry)) → (isSequenced rule ≡ false → 5 ≤ rule .kind → ⊥) → Soon doc q rule at x) ⌝ }
+    ensures { λ x. ⌜ ((doc : Doc) → (q : Rule) → (vkinds : List ℕ) → (values : List ℤ) → Given doc q rule at vkinds values (now (begin .entry)) (now (end .entry)) (now (rep .entry)) (now (group .entry)) (now (opens .entry)) (now (closes .entry)) (now (chosen .entry)) (now (row .entry)) (now (other .entry)) → (isSequenced rule ≡ false → 5 ≤ rule .kind → ⊥) → SoonAside doc q rule at x) ⌝ }
 {
     if begin.len() <= SMALL {
         let mut read = [0u8; SMALL];

@@ -1,6 +1,7 @@
 -- `soonest::stepping::stepping_lent` meets its contract: what the rule reads is lined up by the places laid out.
 use mathlib.Core.Path.{refl}
 use native.Mathlib.Omega.{arith}
+use Rattle.prepare.proofs.Valued.{known-only}
 use Rattle.soonest.proofs.Lining.{size-of, columns-fit, opens-few, opens-covered, covers-of, closing-of, given-until, steps-found}
 use borrow.Author.Needs.{needs}
 use Rattle.soonest.proofs.stepping.stepping_lent.Statement.{statement}
@@ -129,7 +130,7 @@ least-requires c κs =
     let g = p .5 .3 in
     let z = size-of _ _ _ _ _ _ _ _ _ _ _ _ _ _ _ g in
     let k = a .pick in
-    let r = u .reaching .ensures (p .5 .0) (closing-of _ _ _ _ _ _ _ _ _ _ _ _ _ _ _ g) (g .judgeable) (p .3) in
+    let r = u .reaching .ensures (p .5 .0) (closing-of _ _ _ _ _ _ _ _ _ _ _ _ _ _ _ g) (g .judgeable) (known-only _ _ (p .3) (p .4)) in
     given-until _ _ _ _ _ _ _ _ _ _ _ _ _ _ _ g _ _ (m .read-marks .ensures) _ _ (k .ensures .2) (k .ensures .1) _ (omega (arith, l .lay-low .ensures .0, p .0 .in-three)) (l .lay-low .ensures .1) _ (r .room)
 
 same-length : tie.Need-same-length
@@ -155,7 +156,7 @@ returns c =
     λ doc q reps g.
     let z = size-of _ _ _ _ _ _ _ _ _ _ _ _ _ _ _ g in
     steps-found doc q _ _ _ _ _ _ _ _ _ _ _ _ _ g _ _ (m .read-marks .ensures) _ _ (k .ensures .2) (k .ensures .1) _ (omega (arith, l .lay-low .ensures .0, p .0 .in-three)) (l .lay-low .ensures .1) _ _ _
-    (c .least .ensures) refl (p .3) (u .reaching .ensures doc (closing-of _ _ _ _ _ _ _ _ _ _ _ _ _ _ _ g) (g .judgeable) (p .3)) (p .2) (p .4)
+    (c .least .ensures) refl (p .3) (u .reaching .ensures doc (closing-of _ _ _ _ _ _ _ _ _ _ _ _ _ _ _ g) (g .judgeable) (known-only _ _ (p .3) (p .4))) (p .2) (p .4)
 
 pub stepping-lent-spec : {M : Type 1} → statement M
 stepping-lent-spec =
