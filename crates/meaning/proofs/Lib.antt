@@ -57,5 +57,6 @@ pub mod PinnedRules
 pub mod PinnedDays
 pub mod PinnedWindows
 pub mod PinnedShortened
+pub mod PinnedNils
 pub mod Pinned
 pub mod Unique
