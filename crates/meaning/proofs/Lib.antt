@@ -38,8 +38,11 @@ pub mod Faults
 pub mod Timetable
 pub mod Windows
 pub mod Sequenced
+pub mod Nils
 pub mod Before
 pub mod Sparing
+pub mod BeforeNils
+pub mod Nilless
 pub mod Hops
 pub mod Asking
 pub mod Decoded
