@@ -45,6 +45,8 @@ use Rattle.meaning.proofs.Windows.{NoFaultAmong, FirstFaultIn}
 use Rattle.meaning.proofs.Sequenced.{sequenced-same}
 use Rattle.meaning.proofs.Before.{verdictBefore}
 use Rattle.meaning.proofs.Sparing.{PastEnd, Untouched, shortened-where, verdict-same, verdict-holds}
+use Rattle.meaning.proofs.BeforeNils.{readNodesWas, verdictWas, sliceAnswerWas, sliceLentWas, changesAnswerWas, changesLentWas}
+use Rattle.meaning.proofs.Nilless.{NoNils, verdict-as-was, slice-as-was, slice-left-as-was, changes-as-was, changes-left-as-was, was-nilless, still-accepted}
 use Rattle.meaning.proofs.Slices as Slices
 use Rattle.meaning.proofs.Faults as Faults
 use Rattle.meaning.proofs.Windows as Windows
@@ -329,6 +331,31 @@ verdict-as-before nodes rules k x p u = Unique.verdict-unique x (verdict nodes r
 -- .. and a rule that held before holds still, with the same count.
 pub still-holds : (nodes rules : List ℕ) (k : ℕ) (x : Verdict) → VerdictPromise nodes rules k x → (n : ℕ) → verdictBefore nodes rules k ≡ Holds n → x ≡ Holds n
 still-holds nodes rules k x p n e = Unique.verdict-unique x (verdict nodes rules k) p ∙ verdict-holds nodes rules k n e
+
+-- What request 5 of 02 left as it was: for a node image without nils `verdict` answers what it answered before there were any, be the images what they may
+-- (`verdictWas` and its like: the meaning before nils, kept in meaning/proofs/BeforeNils.antt for this statement and the next three), ..
+pub verdict-without-nils : (nodes rules : List ℕ) (k : ℕ) (x : Verdict) → VerdictPromise nodes rules k x → NoNils (docOf nodes) → x ≡ verdictWas nodes rules k
+verdict-without-nils nodes rules k x p none = Unique.verdict-unique x (verdict nodes rules k) p ∙ verdict-as-was nodes none rules k
+
+-- .. `slice` answers what it answered and leaves what it left in the lent list, ..
+pub slice-without-nils : (nodes : List ℕ) (d : ℕ) (lent : List ℕ) (x : Listed) (after : List ℕ) → SlicePromise nodes d lent x after → NoNils (docOf nodes)
+    → (x ≡ sliceAnswerWas nodes d lent) × (after ≡ sliceLentWas nodes d lent)
+slice-without-nils nodes d lent x after p none = (
+  Unique.listed-unique x (sliceAnswer nodes d lent) (p .0) ∙ slice-as-was nodes none d lent,
+  p .1 ∙ slice-left-as-was nodes none d lent,
+)
+
+-- .. and so does `change_days`.
+pub changes-without-nils : (nodes rules : List ℕ) (k : ℕ) (lent : List ℕ) (x : Listed) (after : List ℕ) → ChangesPromise nodes rules k lent x after
+    → NoNils (docOf nodes) → (x ≡ changesAnswerWas nodes rules k lent) × (after ≡ changesLentWas nodes rules k lent)
+changes-without-nils nodes rules k lent x after p none = (
+  Unique.listed-unique x (changesAnswer nodes rules k lent) (p .0) ∙ changes-as-was nodes none rules k lent,
+  p .1 ∙ changes-left-as-was nodes none rules k lent,
+)
+
+-- A node image that was accepted before has no nils, so these hold of it, and it is accepted still.
+pub accepted-before-nils : (nodes : List ℕ) → readNodesWas nodes ≡ Accepted → NoNils (docOf nodes) × (readNodes nodes ≡ Accepted)
+accepted-before-nils nodes e = (was-nilless nodes e, still-accepted nodes e)
 
 -- The slice of day d, as a list.
 pub record IsSlice (doc : Doc) (d : ℕ) (list : List ℕ) : Type 0 where
