@@ -19,8 +19,8 @@ use Rattle.meaning.specs.Block.{nodeForm, imageTests}
 use Rattle.meaning.specs.Document.{Doc, node, ofNodes}
 use Rattle.meaning.specs.Nodes.{nodesOf, docOf, isPeriod, itemFields, versionFields, nodeFields, readRecord, documentTests, accept, readNodes}
 use Rattle.meaning.specs.Select.{isNil, sameValue, gives, hasNil, has}
-use Rattle.meaning.specs.Day.{presentOn, sharesOnly, taken, key, unique, reference, datatype, breaks, offends, offender, firstFailing, onDays}
-use Rattle.meaning.specs.Window.{meets, shares, sharedIn, keyIn, referenceIn, counts, cardinalityIn, follows, jumps, datatypeIn, breaksIn, offendsIn, offenderIn, inWindows}
+use Rattle.meaning.specs.Day.{presentOn, values, sharesOnly, taken, key, unique, reference, datatype, breaks, offends, offender, firstFailing, onDays}
+use Rattle.meaning.specs.Window.{meets, valueless, shares, sharedIn, keyIn, referenceIn, counts, cardinalityIn, follows, jumps, datatypeIn, breaksIn, offendsIn, offenderIn, inWindows}
 use Rattle.meaning.specs.Answer.{judged, readVerdict, verdict, readSlice, sliceAnswer, sliceLent, readChanges, changesAnswer, changesLent}
 use Rattle.meaning.proofs.Basics.{le-or-lt, or-cases}
 use Rattle.meaning.proofs.Walks.{any-none}
@@ -36,9 +36,10 @@ and-true : (a : Bool) → a && true ≡ a
 and-true true = refl
 and-true false = refl
 
-or-false : (a : Bool) → a || false ≡ a
-or-false true = refl
-or-false false = refl
+-- of three the one between fails, the last is another that is as good
+between-fails : (a b c d : Bool) → b ≡ false → c ≡ d → a || b || c ≡ (a || d)
+between-fails true b c d e h = refl
+between-fails false b c d e h = rw e h
 
 and-false : (a : Bool) → a && false ≡ false
 and-false true = refl
@@ -73,7 +74,7 @@ module _ (doc : Doc) (none : (f : ℕ) → isNil doc f ≡ false) where
 
     key-same : key doc p ≡ keyWas doc p
     unfolding key keyWas
-    key-same = fun-ext (λ r. fun-ext (λ v. rw (no-nil r v, or-false, taken-same)))
+    key-same = fun-ext (λ r. fun-ext (λ v. between-fails (not (eqb (values doc p r v) 1)) (hasNil doc p r v) (taken doc p r v) _ (no-nil r v) (rw taken-same)))
 
     unique-same : unique doc p ≡ uniqueWas doc p
     unfolding unique uniqueWas
@@ -98,7 +99,7 @@ module _ (doc : Doc) (none : (f : ℕ) → isNil doc f ≡ false) where
 
     key-in-same : keyIn doc p ≡ keyInWas doc p
     unfolding keyIn keyInWas
-    key-in-same = fun-ext (λ r. fun-ext (λ v. rw (no-nil r v, or-false, shared-same)))
+    key-in-same = fun-ext (λ r. fun-ext (λ v. between-fails (valueless doc p r v) (hasNil doc p r v) (sharedIn doc p r v) _ (no-nil r v) (rw shared-same)))
 
     reference-in-same : referenceIn doc p ≡ referenceInWas doc p
     unfolding referenceIn referenceInWas
