@@ -14,17 +14,19 @@ use Rattle.meaning.specs.declared.Reading.{Reading}
 use Rattle.meaning.specs.declared.Verdict.{Verdict}
 use Rattle.meaning.specs.declared.Verdict.the-variants.{Holds, Fails}
 use Rattle.meaning.specs.declared.Listed.{Listed}
+use Rattle.meaning.specs.declared.Output.{Output}
 use Rattle.meaning.specs.Walk.{any, count, first, onFound, found, place}
 use Rattle.meaning.specs.Bytes.{eqZ}
 use Rattle.meaning.specs.Order.{need, andThen, Test, inOrder}
-use Rattle.meaning.specs.Block.{nodeForm, imageTests}
-use Rattle.meaning.specs.Document.{Doc, node, numberOf}
-use Rattle.meaning.specs.Nodes.{docOf, isPeriod, itemFields, parentFits, depth, deepest, misplaced, clashes, whole}
+use Rattle.meaning.specs.Block.{nodeForm, limit, imageTests}
+use Rattle.meaning.specs.Document.{Doc, ofNodes, node, numberOf}
+use Rattle.meaning.specs.Nodes.{docOf, imageOf, isPeriod, itemFields, parentFits, depth, deepest, misplaced, clashes, whole}
+use Rattle.meaning.specs.Lent.{Lent, nodesLent, longEnough}
 use Rattle.meaning.specs.Rules.{byKind, isSequenced, ruleAt, rulesOf, readRules}
 use Rattle.meaning.specs.Select.{isNumber, within, present, gives}
 use Rattle.meaning.specs.Day.{presentOn, slice, values, cardinality, changeDays}
 use Rattle.meaning.specs.Window.{Window, shortened, meets, valueless, under, windows, judge}
-use Rattle.meaning.specs.Answer.{referredBy, verdictAfter, storing, lentAfter, changesOf}
+use Rattle.meaning.specs.Answer.{referredBy, verdictAfter, storing, lentAfter, changesOf, outputAfter, imageAfter}
 
 -- READING: the table's column for a version, and the tests that rest on it
 unfoldable pub versionFieldsWas : Node → Bool
@@ -181,3 +183,20 @@ changesAnswerWas nodes rules k lent = storing (readChangesWas nodes rules k) (ch
 
 unfoldable pub changesLentWas : List ℕ → List ℕ → ℕ → List ℕ → List ℕ
 changesLentWas nodes rules k lent = lentAfter (changesAnswerWas nodes rules k lent) (changesOf nodes rules k) lent
+
+unfoldable pub sequencedVerdictWas : List ℕ → List ℕ → ℕ → Verdict
+sequencedVerdictWas nodes rules k =
+    verdictAfter (readChangesWas nodes rules k) (onDaysWas (docOf nodes) (referredBy (rulesOf rules) k) (ruleAt (rulesOf rules) k))
+
+unfoldable pub readLentWas : ℕ → Lent → Reading
+readLentWas n c =
+    andThen (need (leb 1 n && leb n limit) 1 0) (andThen (need (longEnough n c) 12 0) (acceptWas (ofNodes (nodesLent n c))))
+
+unfoldable pub readWriteWas : ℕ → Lent → List ℕ → Reading
+readWriteWas n c image = andThen (readLentWas n c) (need (leb (length (imageOf (nodesLent n c))) (length image)) 12 0)
+
+unfoldable pub writeAnswerWas : ℕ → Lent → List ℕ → Output
+writeAnswerWas n c image = outputAfter (readWriteWas n c image) (length (imageOf (nodesLent n c)))
+
+unfoldable pub writeImageWas : ℕ → Lent → List ℕ → List ℕ
+writeImageWas n c image = imageAfter (writeAnswerWas n c image) (imageOf (nodesLent n c)) image

@@ -1,4 +1,4 @@
--- What request 5 of 02 left as it was: an image without nils is read, judged and listed as before, and one that was accepted has none.
+-- What request 5 of 02 left as it was: an image without nils is read, judged, listed and written as before, and one that was accepted has none.
 use mathlib.Core.Path.{_≡_, refl, sym, fun-ext, _∙_}
 use mathlib.Core.Logic.{⊎-elim}
 use mathlib.Core.Bool.{Bool, true, false, _&&_, _||_, not, false≢true}
@@ -21,12 +21,13 @@ use Rattle.meaning.specs.Nodes.{nodesOf, docOf, isPeriod, itemFields, ve
 use Rattle.meaning.specs.Select.{isNil, sameValue, gives, hasNil, has}
 use Rattle.meaning.specs.Day.{presentOn, values, sharesOnly, taken, key, unique, reference, datatype, breaks, offends, offender, firstFailing, onDays}
 use Rattle.meaning.specs.Window.{meets, valueless, shares, sharedIn, keyIn, referenceIn, counts, cardinalityIn, follows, jumps, datatypeIn, breaksIn, offendsIn, offenderIn, inWindows}
-use Rattle.meaning.specs.Answer.{judged, readVerdict, verdict, readSlice, sliceAnswer, sliceLent, readChanges, changesAnswer, changesLent}
+use Rattle.meaning.specs.Answer.{judged, readVerdict, verdict, readSlice, sliceAnswer, sliceLent, readChanges, changesAnswer, changesLent, sequencedVerdict, readWrite, writeAnswer, writeImage}
+use Rattle.meaning.specs.Lent.{Lent, nodesLent, readLent}
 use Rattle.meaning.proofs.Basics.{le-or-lt, or-cases}
 use Rattle.meaning.proofs.Walks.{any-none}
 use Rattle.meaning.proofs.Orders.{order-passed, then-accepted}
 use Rattle.meaning.proofs.Says.{says}
-use Rattle.meaning.proofs.BeforeNils.{versionFieldsWas, nodeFieldsWas, readRecordWas, documentTestsWas, acceptWas, readNodesWas, sameValueWas, hasWas, sharesOnlyWas, takenWas, keyWas, uniqueWas, referenceWas, datatypeWas, breaksWas, offendsWas, sharesWas, sharedInWas, keyInWas, referenceInWas, countsWas, cardinalityInWas, followsWas, jumpsWas, datatypeInWas, breaksInWas, offendsInWas, offenderWas, firstFailingWas, onDaysWas, offenderInWas, inWindowsWas, judgedWas, readVerdictWas, verdictWas, readSliceWas, sliceAnswerWas, sliceLentWas, readChangesWas, changesAnswerWas, changesLentWas}
+use Rattle.meaning.proofs.BeforeNils.{versionFieldsWas, nodeFieldsWas, readRecordWas, documentTestsWas, acceptWas, readNodesWas, sameValueWas, hasWas, sharesOnlyWas, takenWas, keyWas, uniqueWas, referenceWas, datatypeWas, breaksWas, offendsWas, sharesWas, sharedInWas, keyInWas, referenceInWas, countsWas, cardinalityInWas, followsWas, jumpsWas, datatypeInWas, breaksInWas, offendsInWas, offenderWas, firstFailingWas, onDaysWas, offenderInWas, inWindowsWas, judgedWas, readVerdictWas, verdictWas, readSliceWas, sliceAnswerWas, sliceLentWas, readChangesWas, changesAnswerWas, changesLentWas, sequencedVerdictWas, readLentWas, readWriteWas, writeAnswerWas, writeImageWas}
 
 -- no record holds a nil
 abbrev pub NoNils : Doc → Type 0
@@ -187,27 +188,35 @@ pub accepted-nilless : (doc : Doc) → acceptWas doc ≡ Accepted → NoNils doc
 unfolding acceptWas documentTestsWas readRecordWas isNil
 accepted-nilless doc e f h = fields-nilless (node doc f) ((simp says at (order-passed (documentTestsWas doc) e .0 f h)) .1 .0)
 
--- past the records of an image there is no nil
-everywhere : (image : List ℕ) → NoNils (docOf image) → (f : ℕ) → isNil (docOf image) f ≡ false
-unfolding isNil docOf ofNodes
-everywhere image none f = ⊎-elim past (none f) (le-or-lt (length (map (λ (n : Node). n .kind) (nodesOf image))) f)
+-- past the records of a list there is no nil
+everywhere : (ns : List Node) → NoNils (ofNodes ns) → (f : ℕ) → isNil (ofNodes ns) f ≡ false
+unfolding isNil ofNodes
+everywhere ns none f = ⊎-elim past (none f) (le-or-lt (length (map (λ (n : Node). n .kind) ns)) f)
   where
-    past : length (map (λ (n : Node). n .kind) (nodesOf image)) ≤ f → eqb (getD (map (λ (n : Node). n .vkind) (nodesOf image)) f 0) 3 ≡ false
+    past : length (map (λ (n : Node). n .kind) ns) ≤ f → eqb (getD (map (λ (n : Node). n .vkind) ns) f 0) 3 ≡ false
     past h =
-        let a = length-map (nodesOf image) (λ (n : Node). n .kind) in
-        let b = length-map (nodesOf image) (λ (n : Node). n .vkind) in
-        let l : length (map (λ (n : Node). n .vkind) (nodesOf image)) ≤ f = omega arith in
-        rw (List·getD-eq-default (map (λ (n : Node). n .vkind) (nodesOf image)) 0 l)
+        let a = length-map ns (λ (n : Node). n .kind) in
+        let b = length-map ns (λ (n : Node). n .vkind) in
+        let l : length (map (λ (n : Node). n .vkind) ns) ≤ f = omega arith in
+        rw (List·getD-eq-default (map (λ (n : Node). n .vkind) ns) 0 l)
 
 -- AN IMAGE WITHOUT NILS gets the answers that it got, refusals included
 module _ (nodes : List ℕ) (none : NoNils (docOf nodes)) where
+  nowhere : (f : ℕ) → isNil (docOf nodes) f ≡ false
+  unfolding docOf
+  nowhere = everywhere (nodesOf nodes) none
+
   pub nodes-as-was : readNodes nodes ≡ readNodesWas nodes
   unfolding readNodes readNodesWas
-  nodes-as-was = rw (accept-same (docOf nodes) (everywhere nodes none))
+  nodes-as-was = rw (accept-same (docOf nodes) nowhere)
 
   pub verdict-as-was : (rules : List ℕ) (k : ℕ) → verdict nodes rules k ≡ verdictWas nodes rules k
   unfolding verdict verdictWas readVerdict readVerdictWas
-  verdict-as-was rules k = rw (nodes-as-was, judged-same (docOf nodes) (everywhere nodes none))
+  verdict-as-was rules k = rw (nodes-as-was, judged-same (docOf nodes) nowhere)
+
+  pub sequenced-as-was : (rules : List ℕ) (k : ℕ) → sequencedVerdict nodes rules k ≡ sequencedVerdictWas nodes rules k
+  unfolding sequencedVerdict sequencedVerdictWas readChanges readChangesWas
+  sequenced-as-was rules k = rw (nodes-as-was, on-days-same (docOf nodes) nowhere)
 
   pub slice-as-was : (d : ℕ) (lent : List ℕ) → sliceAnswer nodes d lent ≡ sliceAnswerWas nodes d lent
   unfolding sliceAnswer sliceAnswerWas readSlice readSliceWas
@@ -224,6 +233,16 @@ module _ (nodes : List ℕ) (none : NoNils (docOf nodes)) where
   pub changes-left-as-was : (rules : List ℕ) (k : ℕ) (lent : List ℕ) → changesLent nodes rules k lent ≡ changesLentWas nodes rules k lent
   unfolding changesLent changesLentWas
   changes-left-as-was rules k lent = rw (changes-as-was rules k lent)
+
+-- Columns without nils are written as they were
+module _ (n : ℕ) (c : Lent) (none : NoNils (ofNodes (nodesLent n c))) (image : List ℕ) where
+  pub write-as-was : writeAnswer n c image ≡ writeAnswerWas n c image
+  unfolding writeAnswer writeAnswerWas readWrite readWriteWas readLent readLentWas
+  write-as-was = rw (accept-same (ofNodes (nodesLent n c)) (everywhere (nodesLent n c) none))
+
+  pub written-as-was : writeImage n c image ≡ writeImageWas n c image
+  unfolding writeImage writeImageWas
+  written-as-was = rw write-as-was
 
 -- AN IMAGE THAT WAS ACCEPTED has no nils, and is accepted
 module _ (nodes : List ℕ) (e : readNodesWas nodes ≡ Accepted) where
