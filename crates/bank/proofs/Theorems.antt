@@ -45,6 +45,7 @@ use Rattle.meaning.proofs.Windows.{NoFaultAmong, FirstFaultIn}
 use Rattle.meaning.proofs.Sequenced.{sequenced-same}
 use Rattle.meaning.proofs.Before.{verdictBefore}
 use Rattle.meaning.proofs.Sparing.{PastEnd, Untouched, shortened-where, verdict-same, verdict-holds}
+use Rattle.meaning.proofs.Nils.{WantsKnown, NilFreeDays, NilFreeWindows, holds-nil-free, holds-nil-free-in}
 use Rattle.meaning.proofs.BeforeNils.{readNodesWas, verdictWas, sliceAnswerWas, sliceLentWas, changesAnswerWas, changesLentWas, sequencedVerdictWas, writeAnswerWas, writeImageWas}
 use Rattle.meaning.proofs.Nilless.{NoNils, verdict-as-was, slice-as-was, slice-left-as-was, changes-as-was, changes-left-as-was, sequenced-as-was, write-as-was, written-as-was, was-nilless, still-accepted}
 use Rattle.meaning.proofs.Slices as Slices
@@ -332,7 +333,19 @@ verdict-as-before nodes rules k x p u = Unique.verdict-unique x (verdict nodes r
 pub still-holds : (nodes rules : List ℕ) (k : ℕ) (x : Verdict) → VerdictPromise nodes rules k x → (n : ℕ) → verdictBefore nodes rules k ≡ Holds n → x ≡ Holds n
 still-holds nodes rules k x p n e = Unique.verdict-unique x (verdict nodes rules k) p ∙ verdict-holds nodes rules k n e
 
--- What request 5 of 02 left as it was: for a node image without nils `verdict` answers what it answered before there were any, be the images what they may
+-- Request 5 of 02, in the words of the verdict: where `verdict` answers that a key or a reference holds, no selected version has a nil on any day of its period, ..
+pub held-nil-free : (nodes rules : List ℕ) (k : ℕ) (x : Verdict) → VerdictPromise nodes rules k x → Answerable nodes rules k → WantsKnown (ruleAt (rulesOf rules) k)
+    → Sequenced (ruleAt (rulesOf rules) k) → (n : ℕ) → x ≡ Holds n → NilFreeDays (docOf nodes) (ruleAt (rulesOf rules) k)
+held-nil-free nodes rules k x p w wants s n e =
+    holds-nil-free (docOf nodes) (referredBy (rulesOf rules) k) (ruleAt (rulesOf rules) k) wants (sequenced-verdict nodes rules k x p w s .holds .0 (n, e))
+
+-- .. and, if it is not sequenced, in any of its windows.
+pub held-nil-free-in : (nodes rules : List ℕ) (k : ℕ) (x : Verdict) → VerdictPromise nodes rules k x → Answerable nodes rules k → WantsKnown (ruleAt (rulesOf rules) k)
+    → (Sequenced (ruleAt (rulesOf rules) k) → ⊥) → (n : ℕ) → x ≡ Holds n → NilFreeWindows (docOf nodes) (ruleAt (rulesOf rules) k)
+held-nil-free-in nodes rules k x p w wants s n e =
+    holds-nil-free-in (docOf nodes) (referredBy (rulesOf rules) k) (ruleAt (rulesOf rules) k) wants (windowed-verdict nodes rules k x p w s .holds .0 (n, e))
+
+-- What the request left as it was: for a node image without nils `verdict` answers what it answered before there were any, be the images what they may
 -- (`verdictWas` and its like: the meaning before nils, kept in meaning/proofs/BeforeNils.antt for this statement and the next five), ..
 pub verdict-without-nils : (nodes rules : List ℕ) (k : ℕ) (x : Verdict) → VerdictPromise nodes rules k x → NoNils (docOf nodes) → x ≡ verdictWas nodes rules k
 verdict-without-nils nodes rules k x p none = Unique.verdict-unique x (verdict nodes rules k) p ∙ verdict-as-was nodes none rules k

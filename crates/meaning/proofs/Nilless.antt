@@ -1,5 +1,5 @@
 -- What request 5 of 02 left as it was: an image without nils is read, judged, listed and written as before, and one that was accepted has none.
-use mathlib.Core.Path.{_≡_, refl, sym, fun-ext, _∙_}
+use mathlib.Core.Path.{_≡_, refl, sym, ap, ap₂, fun-ext, _∙_}
 use mathlib.Core.Logic.{⊎-elim}
 use mathlib.Core.Bool.{Bool, true, false, _&&_, _||_, not, false≢true}
 use mathlib.Core.List.{List, map}
@@ -13,6 +13,7 @@ use borrow.Author.Tests.{lt-leb, ne-eqb}
 use Rattle.meaning.specs.declared.Node.{Node}
 use Rattle.meaning.specs.declared.Rule.{Rule}
 use Rattle.meaning.specs.declared.Reading.the-variants.{Accepted}
+use Rattle.meaning.specs.declared.Verdict.{Verdict}
 use Rattle.meaning.specs.Bytes.{eqZ}
 use Rattle.meaning.specs.Order.{inOrder}
 use Rattle.meaning.specs.Block.{nodeForm, imageTests}
@@ -21,8 +22,9 @@ use Rattle.meaning.specs.Nodes.{nodesOf, docOf, isPeriod, itemFields, ve
 use Rattle.meaning.specs.Select.{isNil, sameValue, gives, hasNil, has}
 use Rattle.meaning.specs.Day.{presentOn, values, sharesOnly, taken, key, unique, reference, datatype, breaks, offends, offender, firstFailing, onDays}
 use Rattle.meaning.specs.Window.{meets, valueless, shares, sharedIn, keyIn, referenceIn, counts, cardinalityIn, follows, jumps, datatypeIn, breaksIn, offendsIn, offenderIn, inWindows}
-use Rattle.meaning.specs.Answer.{judged, readVerdict, verdict, readSlice, sliceAnswer, sliceLent, readChanges, changesAnswer, changesLent, sequencedVerdict, readWrite, writeAnswer, writeImage}
+use Rattle.meaning.specs.Answer.{referredBy, verdictAfter, judged, readVerdict, verdict, readSlice, sliceAnswer, sliceLent, readChanges, changesAnswer, changesLent, sequencedVerdict, readWrite, writeAnswer, writeImage}
 use Rattle.meaning.specs.Lent.{Lent, nodesLent, readLent}
+use Rattle.meaning.specs.Rules.{ruleAt, rulesOf}
 use Rattle.meaning.proofs.Basics.{le-or-lt, or-cases}
 use Rattle.meaning.proofs.Walks.{any-none}
 use Rattle.meaning.proofs.Orders.{order-passed, then-accepted}
@@ -33,21 +35,21 @@ use Rattle.meaning.proofs.BeforeNils.{versionFieldsWas, nodeFieldsWas, 
 abbrev pub NoNils : Doc → Type 0
 NoNils doc = (f : ℕ) → f < doc .size → isNil doc f ≡ false
 
+-- small laws on tests; a test between two others that fails makes no difference
 and-true : (a : Bool) → a && true ≡ a
 and-true true = refl
 and-true false = refl
-
--- of three the one between fails, the last is another that is as good
-between-fails : (a b c d : Bool) → b ≡ false → c ≡ d → a || b || c ≡ (a || d)
-between-fails true b c d e h = refl
-between-fails false b c d e h = rw e h
 
 and-false : (a : Bool) → a && false ≡ false
 and-false true = refl
 and-false false = refl
 
+between-fails : (a b c d : Bool) → b ≡ false → c ≡ d → a || b || c ≡ (a || d)
+between-fails true b c d e h = refl
+between-fails false b c d e h = rw e h
+
 module _ (doc : Doc) (none : (f : ℕ) → isNil doc f ≡ false) where
-  -- the test fails everywhere
+  -- the test fails no-nil-anywhere
   nothing-nil : isNil doc ≡ (λ f. false)
   nothing-nil = fun-ext none
 
@@ -189,9 +191,9 @@ unfolding acceptWas documentTestsWas readRecordWas isNil
 accepted-nilless doc e f h = fields-nilless (node doc f) ((simp says at (order-passed (documentTestsWas doc) e .0 f h)) .1 .0)
 
 -- past the records of a list there is no nil
-everywhere : (ns : List Node) → NoNils (ofNodes ns) → (f : ℕ) → isNil (ofNodes ns) f ≡ false
+no-nil-anywhere : (ns : List Node) → NoNils (ofNodes ns) → (f : ℕ) → isNil (ofNodes ns) f ≡ false
 unfolding isNil ofNodes
-everywhere ns none f = ⊎-elim past (none f) (le-or-lt (length (map (λ (n : Node). n .kind) ns)) f)
+no-nil-anywhere ns none f = ⊎-elim past (none f) (le-or-lt (length (map (λ (n : Node). n .kind) ns)) f)
   where
     past : length (map (λ (n : Node). n .kind) ns) ≤ f → eqb (getD (map (λ (n : Node). n .vkind) ns) f 0) 3 ≡ false
     past h =
@@ -202,21 +204,17 @@ everywhere ns none f = ⊎-elim past (none f) (le-or-lt (length (map (λ (n : No
 
 -- AN IMAGE WITHOUT NILS gets the answers that it got, refusals included
 module _ (nodes : List ℕ) (none : NoNils (docOf nodes)) where
-  nowhere : (f : ℕ) → isNil (docOf nodes) f ≡ false
+  no-nil-here : (f : ℕ) → isNil (docOf nodes) f ≡ false
   unfolding docOf
-  nowhere = everywhere (nodesOf nodes) none
+  no-nil-here = no-nil-anywhere (nodesOf nodes) none
 
   pub nodes-as-was : readNodes nodes ≡ readNodesWas nodes
   unfolding readNodes readNodesWas
-  nodes-as-was = rw (accept-same (docOf nodes) nowhere)
+  nodes-as-was = rw (accept-same (docOf nodes) no-nil-here)
 
   pub verdict-as-was : (rules : List ℕ) (k : ℕ) → verdict nodes rules k ≡ verdictWas nodes rules k
   unfolding verdict verdictWas readVerdict readVerdictWas
-  verdict-as-was rules k = rw (nodes-as-was, judged-same (docOf nodes) nowhere)
-
-  pub sequenced-as-was : (rules : List ℕ) (k : ℕ) → sequencedVerdict nodes rules k ≡ sequencedVerdictWas nodes rules k
-  unfolding sequencedVerdict sequencedVerdictWas readChanges readChangesWas
-  sequenced-as-was rules k = rw (nodes-as-was, on-days-same (docOf nodes) nowhere)
+  verdict-as-was rules k = rw (nodes-as-was, judged-same (docOf nodes) no-nil-here)
 
   pub slice-as-was : (d : ℕ) (lent : List ℕ) → sliceAnswer nodes d lent ≡ sliceAnswerWas nodes d lent
   unfolding sliceAnswer sliceAnswerWas readSlice readSliceWas
@@ -226,9 +224,20 @@ module _ (nodes : List ℕ) (none : NoNils (docOf nodes)) where
   unfolding sliceLent sliceLentWas
   slice-left-as-was d lent = rw (slice-as-was d lent)
 
+  changes-read-as-was : (rules : List ℕ) (k : ℕ) → readChanges nodes rules k ≡ readChangesWas nodes rules k
+  unfolding readChanges readChangesWas
+  changes-read-as-was rules k = rw nodes-as-was
+
+  pub sequenced-as-was : (rules : List ℕ) (k : ℕ) → sequencedVerdict nodes rules k ≡ sequencedVerdictWas nodes rules k
+  unfolding sequencedVerdict sequencedVerdictWas
+  sequenced-as-was rules k =
+      let q = referredBy (rulesOf rules) k in
+      let r = ruleAt (rulesOf rules) k in
+      ap₂ verdictAfter (changes-read-as-was rules k) (ap (λ (f : Rule → Rule → Verdict). f q r) (on-days-same (docOf nodes) no-nil-here))
+
   pub changes-as-was : (rules : List ℕ) (k : ℕ) (lent : List ℕ) → changesAnswer nodes rules k lent ≡ changesAnswerWas nodes rules k lent
-  unfolding changesAnswer changesAnswerWas readChanges readChangesWas
-  changes-as-was rules k lent = rw nodes-as-was
+  unfolding changesAnswer changesAnswerWas
+  changes-as-was rules k lent = rw (changes-read-as-was rules k)
 
   pub changes-left-as-was : (rules : List ℕ) (k : ℕ) (lent : List ℕ) → changesLent nodes rules k lent ≡ changesLentWas nodes rules k lent
   unfolding changesLent changesLentWas
@@ -238,7 +247,7 @@ module _ (nodes : List ℕ) (none : NoNils (docOf nodes)) where
 module _ (n : ℕ) (c : Lent) (none : NoNils (ofNodes (nodesLent n c))) (image : List ℕ) where
   pub write-as-was : writeAnswer n c image ≡ writeAnswerWas n c image
   unfolding writeAnswer writeAnswerWas readWrite readWriteWas readLent readLentWas
-  write-as-was = rw (accept-same (ofNodes (nodesLent n c)) (everywhere (nodesLent n c) none))
+  write-as-was = rw (accept-same (ofNodes (nodesLent n c)) (no-nil-anywhere (nodesLent n c) none))
 
   pub written-as-was : writeImage n c image ≡ writeImageWas n c image
   unfolding writeImage writeImageWas

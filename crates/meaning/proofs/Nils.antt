@@ -2,7 +2,7 @@
 use mathlib.Core.Path.{_≡_, refl, _∙_}
 use mathlib.Core.Logic.{_⊎_, ⊎-elim}
 use mathlib.Core.Bool.{Bool, true, false, _&&_, _||_, not}
-use Prim.Native.Nat.{ℕ, zero, suc}
+use Prim.Native.Nat.{ℕ, zero, suc, _≤_, _<_}
 use native.Mathlib.Omega.{arith}
 use lib.Dec.{ltb, eqb}
 use borrow.Author.Tests.{eqb-true, lt-ltb}
@@ -11,11 +11,14 @@ use Rattle.meaning.specs.Walk.{any, count}
 use Rattle.meaning.specs.Document.{Doc}
 use Rattle.meaning.specs.Rules.{byKind}
 use Rattle.meaning.specs.Select.{isNil, sameValue, present, gives, hasNil, has}
-use Rattle.meaning.specs.Day.{values, sharesOnly, taken, key, unique, reference, datatype, breaks, offends}
-use Rattle.meaning.specs.Window.{Window, keyIn, referenceIn, datatypeIn, breaksIn, offendsIn}
+use Rattle.meaning.specs.Day.{presentOn, values, sharesOnly, taken, key, unique, reference, datatype, breaks, offends}
+use Rattle.meaning.specs.Window.{Window, meets, keyIn, referenceIn, datatypeIn, breaksIn, offendsIn, windows}
 use Rattle.meaning.proofs.Basics.{went, clear, never, and-l, and-r, both, or-l}
 use Rattle.meaning.proofs.Walks.{any-some, any-true, any-none}
 use Rattle.meaning.proofs.Says.{says}
+use Rattle.meaning.proofs.Faults.{NoFault}
+use Rattle.meaning.proofs.Timetable.{Nth}
+use Rattle.meaning.proofs.Windows.{NoFaultAmong}
 
 -- a nil equals no value, its own included, and no value equals a nil
 module _ (doc : Doc) (f : ℕ) (nil : isNil doc f ≡ true) where
@@ -118,16 +121,37 @@ module _ (doc : Doc) (p : ℕ → Bool) (q r : Rule) (v : ℕ) (nil : hasNil doc
   unfolding breaksIn byKind
   nil-breaks-in w here k = ⊎-elim (λ e. rw (e, here) nil-breaks-key-in) (λ e. rw (e, here) nil-breaks-reference-in)
 
+-- the rule is a key or a reference
+abbrev pub WantsKnown : Rule → Type 0
+WantsKnown r = (r .kind ≡ 1) ⊎ (r .kind ≡ 3)
+
 -- A SELECTED VERSION WITH A NIL offends a key and a reference: on a day, ..
 module _ (doc : Doc) (p : ℕ → Bool) (q r : Rule) (v : ℕ) (here : present doc p r v ≡ true) (nil : hasNil doc p r v ≡ true) where
-  pub nil-offends : (r .kind ≡ 1) ⊎ (r .kind ≡ 3) → offends doc p q r v ≡ true
+  pub nil-offends : WantsKnown r → offends doc p q r v ≡ true
   unfolding offends
   nil-offends k = both _ _ here (nil-breaks doc p q r v nil (r .kind) k)
 
   -- .. and in a window
-  pub nil-offends-in : (w : Window) → (r .kind ≡ 1) ⊎ (r .kind ≡ 3) → offendsIn doc p w q r v ≡ true
+  pub nil-offends-in : (w : Window) → WantsKnown r → offendsIn doc p w q r v ≡ true
   unfolding offendsIn
   nil-offends-in w k = nil-breaks-in doc p q r v nil w here (r .kind) k
+
+-- no selected version has a nil: on a day of the period, in a window of it
+abbrev pub NilFreeDays : Doc → Rule → Type 0
+NilFreeDays doc r =
+    (d v : ℕ) → r .begin ≤ d → d < r .end → v < doc .size → present doc (presentOn doc d) r v ≡ true → hasNil doc (presentOn doc d) r v ≡ false
+
+abbrev pub NilFreeWindows : Doc → Rule → Type 0
+NilFreeWindows doc r =
+    (j : ℕ) (w : Window) → Nth (windows r) j w → (v : ℕ) → v < doc .size → present doc (meets doc w) r v ≡ true → hasNil doc (meets doc w) r v ≡ false
+
+-- So it is where a key or a reference holds
+module _ (doc : Doc) (q r : Rule) (wants : WantsKnown r) where
+  pub holds-nil-free : NoFault doc q r → NilFreeDays doc r
+  holds-nil-free h d v a b c here = never _ (λ nil. clear (nil-offends doc (presentOn doc d) q r v here nil wants) (h d v a b c))
+
+  pub holds-nil-free-in : NoFaultAmong doc q r (windows r) → NilFreeWindows doc r
+  holds-nil-free-in h j w n v c here = never _ (λ nil. clear (nil-offends-in doc (meets doc w) q r v here nil w wants) (h j w n v c))
 
 -- A unique allows a nil as the only value of a day.
 pub nil-unique : (doc : Doc) (p : ℕ → Bool) (r : Rule) (v : ℕ) → hasNil doc p r v ≡ true → values doc p r v ≡ 1 → unique doc p r v ≡ false
