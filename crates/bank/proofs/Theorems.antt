@@ -19,7 +19,7 @@ use Rattle.meaning.specs.declared.Listed.the-variants.{Stored, Refused as Unlis
 use Rattle.meaning.specs.declared.Output.{Output}
 use Rattle.meaning.specs.declared.Output.the-variants.{Written, Refused as Unwritten}
 use Rattle.meaning.specs.Order.{need, andThen}
-use Rattle.meaning.specs.Document.{Doc}
+use Rattle.meaning.specs.Document.{Doc, ofNodes}
 use Rattle.meaning.specs.Nodes.{nodesOf, docOf, readNodes, imageOf}
 use Rattle.meaning.specs.Lent.{Lent, lent, nodesLent, longEnough, readLent}
 use Rattle.meaning.specs.Rules.{ruleAt, rulesOf, readRules}
@@ -27,7 +27,7 @@ use Rattle.meaning.specs.Walk.{count, pick}
 use Rattle.meaning.specs.Select.{reads}
 use Rattle.meaning.specs.Day.{alive, slice, offender, onDays}
 use Rattle.meaning.specs.Window.{Window, shortened, windows}
-use Rattle.meaning.specs.Answer.{referredBy, judged, verdict, readVerdict, sliceAnswer, sliceLent, readSlice, changesOf, changesAnswer, changesLent, readChanges, sequencedVerdict, readWrite}
+use Rattle.meaning.specs.Answer.{referredBy, judged, verdict, readVerdict, sliceAnswer, sliceLent, readSlice, changesOf, changesAnswer, changesLent, readChanges, sequencedVerdict, readWrite, writeAnswer}
 use Rattle.meaning.proofs.Unique as Unique
 use Rattle.meaning.proofs.Sound.{SoundNodes, SoundRules}
 use Rattle.meaning.proofs.Lines.{FirstDue, refused-exactly}
@@ -45,6 +45,9 @@ use Rattle.meaning.proofs.Windows.{NoFaultAmong, FirstFaultIn}
 use Rattle.meaning.proofs.Sequenced.{sequenced-same}
 use Rattle.meaning.proofs.Before.{verdictBefore}
 use Rattle.meaning.proofs.Sparing.{PastEnd, Untouched, shortened-where, verdict-same, verdict-holds}
+use Rattle.meaning.proofs.Nils.{WantsKnown, NilFreeDays, NilFreeWindows, holds-nil-free, holds-nil-free-in}
+use Rattle.meaning.proofs.BeforeNils.{readNodesWas, verdictWas, sliceAnswerWas, sliceLentWas, changesAnswerWas, changesLentWas, sequencedVerdictWas, writeAnswerWas, writeImageWas}
+use Rattle.meaning.proofs.Nilless.{NoNils, verdict-as-was, slice-as-was, slice-left-as-was, changes-as-was, changes-left-as-was, sequenced-as-was, write-as-was, written-as-was, was-nilless, still-accepted}
 use Rattle.meaning.proofs.Slices as Slices
 use Rattle.meaning.proofs.Faults as Faults
 use Rattle.meaning.proofs.Windows as Windows
@@ -329,6 +332,55 @@ verdict-as-before nodes rules k x p u = Unique.verdict-unique x (verdict nodes r
 -- .. and a rule that held before holds still, with the same count.
 pub still-holds : (nodes rules : List ℕ) (k : ℕ) (x : Verdict) → VerdictPromise nodes rules k x → (n : ℕ) → verdictBefore nodes rules k ≡ Holds n → x ≡ Holds n
 still-holds nodes rules k x p n e = Unique.verdict-unique x (verdict nodes rules k) p ∙ verdict-holds nodes rules k n e
+
+-- Request 5 of 02, in the words of the verdict: where `verdict` answers that a key or a reference holds, no selected version has a nil on any day of its period, ..
+pub held-nil-free : (nodes rules : List ℕ) (k : ℕ) (x : Verdict) → VerdictPromise nodes rules k x → Answerable nodes rules k → WantsKnown (ruleAt (rulesOf rules) k)
+    → Sequenced (ruleAt (rulesOf rules) k) → (n : ℕ) → x ≡ Holds n → NilFreeDays (docOf nodes) (ruleAt (rulesOf rules) k)
+held-nil-free nodes rules k x p w wants s n e =
+    holds-nil-free (docOf nodes) (referredBy (rulesOf rules) k) (ruleAt (rulesOf rules) k) wants (sequenced-verdict nodes rules k x p w s .holds .0 (n, e))
+
+-- .. and, if it is not sequenced, in any of its windows.
+pub held-nil-free-in : (nodes rules : List ℕ) (k : ℕ) (x : Verdict) → VerdictPromise nodes rules k x → Answerable nodes rules k → WantsKnown (ruleAt (rulesOf rules) k)
+    → (Sequenced (ruleAt (rulesOf rules) k) → ⊥) → (n : ℕ) → x ≡ Holds n → NilFreeWindows (docOf nodes) (ruleAt (rulesOf rules) k)
+held-nil-free-in nodes rules k x p w wants s n e =
+    holds-nil-free-in (docOf nodes) (referredBy (rulesOf rules) k) (ruleAt (rulesOf rules) k) wants (windowed-verdict nodes rules k x p w s .holds .0 (n, e))
+
+-- What the request left as it was: for a node image without nils `verdict` answers what it answered before there were any, be the images what they may
+-- (`verdictWas` and its like: the meaning before nils, kept in meaning/proofs/BeforeNils.antt for this statement and the next five), ..
+pub verdict-without-nils : (nodes rules : List ℕ) (k : ℕ) (x : Verdict) → VerdictPromise nodes rules k x → NoNils (docOf nodes) → x ≡ verdictWas nodes rules k
+verdict-without-nils nodes rules k x p none = Unique.verdict-unique x (verdict nodes rules k) p ∙ verdict-as-was nodes none rules k
+
+-- .. `slice` answers what it answered and leaves what it left in the lent list, ..
+pub slice-without-nils : (nodes : List ℕ) (d : ℕ) (lent : List ℕ) (x : Listed) (after : List ℕ) → SlicePromise nodes d lent x after → NoNils (docOf nodes)
+    → (x ≡ sliceAnswerWas nodes d lent) × (after ≡ sliceLentWas nodes d lent)
+slice-without-nils nodes d lent x after p none = (
+  Unique.listed-unique x (sliceAnswer nodes d lent) (p .0) ∙ slice-as-was nodes none d lent,
+  p .1 ∙ slice-left-as-was nodes none d lent,
+)
+
+-- .. and so does `change_days`.
+pub changes-without-nils : (nodes rules : List ℕ) (k : ℕ) (lent : List ℕ) (x : Listed) (after : List ℕ) → ChangesPromise nodes rules k lent x after
+    → NoNils (docOf nodes) → (x ≡ changesAnswerWas nodes rules k lent) × (after ≡ changesLentWas nodes rules k lent)
+changes-without-nils nodes rules k lent x after p none = (
+  Unique.listed-unique x (changesAnswer nodes rules k lent) (p .0) ∙ changes-as-was nodes none rules k lent,
+  p .1 ∙ changes-left-as-was nodes none rules k lent,
+)
+
+-- So does the plain engine's `verdict`, ..
+pub sequenced-without-nils : (nodes rules : List ℕ) (k : ℕ) (x : Verdict) → SequencedPromise nodes rules k x → NoNils (docOf nodes) → x ≡ sequencedVerdictWas nodes rules k
+sequenced-without-nils nodes rules k x p none = Unique.verdict-unique x (sequencedVerdict nodes rules k) p ∙ sequenced-as-was nodes none rules k
+
+-- .. and records without nils are written, or refused, by `write_nodes` as they were.
+pub write-without-nils : (n : ℕ) (c : Lent) (image : List ℕ) (x : Output) (after : List ℕ) → WritePromise n c image x after → NoNils (ofNodes (nodesLent n c))
+    → (x ≡ writeAnswerWas n c image) × (after ≡ writeImageWas n c image)
+write-without-nils n c image x after p none = (
+  Unique.output-unique x (writeAnswer n c image) (p .0) ∙ write-as-was n c none image,
+  p .1 ∙ written-as-was n c none image,
+)
+
+-- A node image that was accepted before has no nils, so these hold of it, and it is accepted still.
+pub accepted-before-nils : (nodes : List ℕ) → readNodesWas nodes ≡ Accepted → NoNils (docOf nodes) × (readNodes nodes ≡ Accepted)
+accepted-before-nils nodes e = (was-nilless nodes e, still-accepted nodes e)
 
 -- The slice of day d, as a list.
 pub record IsSlice (doc : Doc) (d : ℕ) (list : List ℕ) : Type 0 where

@@ -38,8 +38,11 @@ pub mod Faults
 pub mod Timetable
 pub mod Windows
 pub mod Sequenced
+pub mod Nils
 pub mod Before
 pub mod Sparing
+pub mod BeforeNils
+pub mod Nilless
 pub mod Hops
 pub mod Asking
 pub mod Decoded
@@ -57,5 +60,6 @@ pub mod PinnedRules
 pub mod PinnedDays
 pub mod PinnedWindows
 pub mod PinnedShortened
+pub mod PinnedNils
 pub mod Pinned
 pub mod Unique

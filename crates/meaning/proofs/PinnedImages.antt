@@ -10,7 +10,7 @@ use Rattle.meaning.proofs.Opened.{opened}
 use Rattle.meaning.proofs.Pinning.{Held}
 use Rattle.meaning.specs.Block.{nodeForm, ruleForm, blockOf}
 use Rattle.meaning.specs.Nodes.{nodeBytes}
-use Rattle.meaning.proofs.Writing.{item, bare, number, text, rule, nodes, table, written}
+use Rattle.meaning.proofs.Writing.{item, bare, number, text, nil, rule, nodes, table, written}
 
 -- a root with one version, over the whole century
 unfoldable pub lone : List Node
@@ -204,3 +204,37 @@ stepsBy between =
     ∷ item 4 10 5
     ∷ number 11 60 70 (pos 160)
     ∷ []
+
+-- Mixers A in record 3 and B in 9 with serials, name 3; a plug in 18 that names serials, name 6. A has a nil, then 7 from day 20 on and 0 from 60 on; B a nil,
+-- then 8 on the days 30 to 89, and beside it or alone three nils; the plug a nil, then 8 from day 10 on, and beside it a nil on the days 70 to 89.
+unfoldable pub unknown : List Node
+unknown =
+    item 1 65535 1
+    ∷ bare 0 0 100
+    ∷ item 2 1 2
+    ∷ bare 2 0 100
+    ∷ item 3 3 3
+    ∷ nil 4 0 20
+    ∷ number 4 20 60 (pos 7)
+    ∷ number 4 60 100 (pos 0)
+    ∷ item 2 1 4
+    ∷ bare 8 0 100
+    ∷ item 3 9 5
+    ∷ nil 10 0 30
+    ∷ number 10 30 90 (pos 8)
+    ∷ item 3 9 6
+    ∷ nil 13 20 30
+    ∷ nil 13 40 60
+    ∷ nil 13 90 100
+    ∷ item 5 1 7
+    ∷ bare 17 0 100
+    ∷ item 6 18 8
+    ∷ nil 19 0 10
+    ∷ number 19 10 100 (pos 8)
+    ∷ item 6 18 9
+    ∷ nil 22 70 90
+    ∷ []
+
+pub unknown-held : Held (nodes unknown) (ofNodes unknown)
+unfolding opened written unknown
+unknown-held = record { nodes-read = refl; document = refl }

@@ -12,6 +12,8 @@ use Rattle.meaning.proofs.Theorems.{nodes-refused, rules-refused, verdi
 use Rattle.meaning.proofs.Agree.{offends-agree, offends-in-agree}
 use Rattle.meaning.proofs.Sequenced.{sequenced-same, sequenced-refused, sequenced-days}
 use Rattle.meaning.proofs.Sparing.{shortened-where, verdict-same, verdict-holds}
+use Rattle.meaning.proofs.Nils.{nil-equals-none, none-equals-nil, nil-offends, nil-offends-in, nil-unique, nil-datatype, nil-datatype-in}
+use Rattle.meaning.proofs.Nilless.{verdict-as-was, slice-left-as-was, changes-left-as-was, sequenced-as-was, written-as-was, still-accepted}
 
 -- To work the examples out takes most of a check's time, so a definition that already breaks one of these is refused before it.
 laws-first : Unit {0}
@@ -36,6 +38,19 @@ laws-first =
     let law = shortened-where in
     let law = verdict-same in
     let law = verdict-holds in
+    let law = nil-equals-none in
+    let law = none-equals-nil in
+    let law = nil-offends in
+    let law = nil-offends-in in
+    let law = nil-unique in
+    let law = nil-datatype in
+    let law = nil-datatype-in in
+    let law = verdict-as-was in
+    let law = slice-left-as-was in
+    let law = changes-left-as-was in
+    let law = sequenced-as-was in
+    let law = written-as-was in
+    let law = still-accepted in
     let law = bank-examples in
     let law = edge-examples in
     let law = slip-examples in

@@ -24,7 +24,7 @@ put k bytes s = take k s ++ bytes ++ drop (k + length bytes) s
 abbrev pub item : ℕ → ℕ → ℕ → Node
 item name parent number = record { kind = 1; vkind = 0; name = name; parent = parent; begin = 0; end = 0; value = pos 0; item = number; spare = 0 }
 
--- a version: value kind, parent, begin, end, value; the same without a value, with a number, with a text code
+-- a version: value kind, parent, begin, end, value; the same without a value, with a number, with a text code, with a nil
 abbrev version : ℕ → ℕ → ℕ → ℕ → ℤ → Node
 version kind parent begin end value =
     record { kind = 2; vkind = kind; name = 0; parent = parent; begin = begin; end = end; value = value; item = 0; spare = 0 }
@@ -37,6 +37,9 @@ number parent begin end value = version 1 parent begin end value
 
 abbrev pub text : ℕ → ℕ → ℕ → ℕ → Node
 text parent begin end code = version 2 parent begin end (pos code)
+
+abbrev pub nil : ℕ → ℕ → ℕ → Node
+nil parent begin end = version 3 parent begin end (pos 0)
 
 -- the 50 bytes of a rule: kind, 0 sequenced or 1 non-sequenced, path, field; over the whole century, referring to no rule, with no bounds and no window
 unfoldable pub rule : ℕ → ℕ → List ℕ → ℕ → List ℕ
