@@ -1,12 +1,13 @@
 -- Of the nils in rows, by their begins, the first that has a place has the soonest.
-use mathlib.Core.Path.{_≡_, sym, ap, _∙_}
+use mathlib.Core.Path.{_≡_, refl, sym, ap, _∙_}
 use mathlib.Core.Logic.{_⊎_, inl, inr, ⊎-elim}
-use mathlib.Core.Bool.{Bool, true, false, _&&_, _||_}
+use mathlib.Core.Bool.{Bool, true, false, _&&_, _||_, not}
 use mathlib.Core.List.{List}
 use Prim.Native.Nat.{ℕ, _+_, _≤_, _<_}
 use native.Mathlib.Omega.{arith}
 use borrow.Author.Count.{below-more}
 use borrow.Author.Tests.{eqb-true, eq-eqb, ltb-true, lt-ltb}
+use lib.IntN.{ℤ}
 use lib.Dec.{eqb, ltb}
 use lib.ListN.{length, getD}
 use Rattle.meaning.specs.declared.Rule.{Rule}
@@ -25,6 +26,7 @@ use Rattle.places.specs.declared.Places.{Places}
 use Rattle.places.specs.Placing.{endOf, windowAt, Low, High}
 use Rattle.places.proofs.Presence.{meets-there}
 use Rattle.soonest.specs.Soon.{Unspoilt}
+use Rattle.soonest.specs.Given.{Given}
 use Rattle.soonest.specs.Nils.{Nilled}
 use Rattle.soonest.proofs.Sweeping.{row-is, row-held, row-version}
 
@@ -33,6 +35,32 @@ pub unspoilt-else : (doc : Doc) (r : Rule) (places : Places) (D : ℕ) → (eqb 
 unfolding Unspoilt spoils
 unspoilt-else doc r places D e k v h l = rw e
 
+-- no version is spoilt below a sooner place either
+pub unspoilt-sooner : (doc : Doc) (r : Rule) (places : Places) (D E : ℕ) → E ≤ D → Unspoilt doc r places D → Unspoilt doc r places E
+unfolding Unspoilt
+unspoilt-sooner doc r places D E h clean k v less sooner = clean k v less (omega arith)
+
+-- what the finder is given has what the nils are found from
+pub nilled : {doc : Doc} {q r : Rule} {places : Places} {vkinds : List ℕ} {values : List ℤ} {begins ends reps groups opens closes chosen rows others : List ℕ}
+    → Given doc q r places vkinds values begins ends reps groups opens closes chosen rows others → Nilled doc r places vkinds rows begins ends opens
+nilled g = record { vkind = g .vkind; rows-are = g .rows-are; periods = g .periods; opened = g .opened; counted = g .counted }
+
+-- the others are of the first three kinds
+pub nil-kind : (k : ℕ) → not (eqb k 1 || eqb k 3) ≡ false → k ≤ 3
+nil-kind k e =
+    ⊎-elim (λ t. let q = eqb-true k 1 t in omega arith) (λ t. let q = eqb-true k 3 t in omega arith) (or-cases (eqb k 1) (eqb k 3) (passed (eqb k 1 || eqb k 3) e))
+  where
+    passed : (t : Bool) → not t ≡ false → t ≡ true
+    passed true e = refl
+    passed false e = sym e
+
+-- record f has an entry in each of four columns
+pub record Entered (vkinds rows begins ends : List ℕ) (f : ℕ) : Type 0 where
+  pub kind : f < length vkinds
+  pub row : length vkinds ≤ length rows
+  pub begin : f < length begins
+  pub end : f < length ends
+
 module _ (doc : Doc) (r : Rule) (places : Places) (vkinds rows begins ends opens : List ℕ) (s : Nilled doc r places vkinds rows begins ends opens) where
   -- f, a nil in a row, is present at place k
   pub record NilAt (k f : ℕ) : Type 0 where
@@ -40,6 +68,17 @@ module _ (doc : Doc) (r : Rule) (places : Places) (vkinds rows begins ends opens
     pub row : getD rows f 0 < length vkinds
     pub version : isVersion doc f ≡ true
     pub here : meets doc (windowAt places k) f ≡ true
+
+  -- a version of the order has an entry in each column
+  pub nil-here : (i f : ℕ) → f ≡ getD opens i 0 → i < length opens → Entered vkinds rows begins ends f
+  nil-here i f is h =
+      let here : getD opens i 0 < doc .size = version-here doc (getD opens i 0) (s .opened .once i h .0) in
+      record {
+        kind = omega (arith, s .vkind .size);
+        row = omega (arith, s .vkind .size, s .rows-are .room);
+        begin = omega (arith, s .periods .begin .size);
+        end = omega (arith, s .periods .end .size);
+      }
 
   -- a version that a nil spoils has such a one
   spoilt-nil : (kind : r .kind ≤ 3) (k v : ℕ) → spoils doc (meets doc (windowAt places k)) r v ≡ true → (f : ℕ) × NilAt k f

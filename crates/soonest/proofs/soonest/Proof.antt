@@ -1,6 +1,7 @@
 -- `soonest::soonest` meets its contract: the rule is a datatype in windows, or it is none.
 use Rattle.soonest.proofs.Lining.{stepped, unstepped}
 use borrow.Author.Needs.{needs}
+use Rattle.soonest.proofs.Spoiling.{unspoilt-sooner, nilled}
 use Rattle.soonest.proofs.soonest.Statement.{statement}
 use Rattle.soonest.proofs.soonest.Tie as tie
 
@@ -21,10 +22,20 @@ returns c = λ doc q g. c .stepping .ensures doc q _ g
 sweeping-requires : tie.Need-sweeping-requires
 sweeping-requires c κs = let p = entry (c .before) .pre in (p .0, p .1, (p .2 .0, p .2 .1, _, _, p .2 .2))
 
+soonest-nil-requires : tie.Need-soonest-nil-requires
+soonest-nil-requires c κs = let p = entry (c .before .before) .pre in (p .0, (p .2 .0, nilled (p .2 .2)))
+
+sooner-requires : tie.Need-sooner-requires
+sooner-requires c κs = search needs
+
 returns-2 : tie.Need-returns-2
 returns-2 c =
-    let z = entry (c .before .before) .args .rule in
-    λ doc q g. c .sweeping .ensures doc q _ _ g (unstepped (z .windowed) (z .kind) (c .before .if1 .left))
+    let t = c .before .before in
+    let z = entry (t .before .before) .args .rule in
+    let lower = c .sooner .ensures in
+    λ doc q g.
+    t .sweeping .ensures doc q _ _ g (unstepped (z .windowed) (z .kind) (t .before .if1 .left)) _ (lower .0)
+    (unspoilt-sooner doc _ _ _ _ (lower .1) (c .before .soonest-nil .ensures doc (nilled g)))
 
 pub soonest-spec : {M : Type 1} → statement M
 soonest-spec =
@@ -33,4 +44,6 @@ soonest-spec =
     stepping-requires
     returns
     sweeping-requires
+    soonest-nil-requires
+    sooner-requires
     returns-2)

@@ -1,93 +1,107 @@
+-- `soonest::nils::soonest_nil` meets its contract: none of the first i versions is a nil in a row with a place.
+use Prim.Native.Nat.{_≤_, _-_}
+use native.Mathlib.Omega.{arith}
+use borrow.Author.Needs.{needs}
+use borrow.Author.Tests.{not-true}
+use lib.ListN.{length}
+use Rattle.meaning.specs.declared.Rule.{Rule}
+use Rattle.meaning.specs.Document.{Doc}
+use Rattle.soonest.specs.Nils.{Nilled}
+use Rattle.soonest.proofs.Spoiling.{Entered, Passed, unspoilt-else, nil-kind, nil-here, passed-none, passed-other, passed-unplaced, passed-placed, passed-all}
 use Rattle.soonest.proofs.nils.soonest_nil.Statement.{statement}
 use Rattle.soonest.proofs.nils.soonest_nil.Tie as tie
-use Rattle.soonest.proofs.nils.soonest_nil.Reads as reads
-use Rattle.soonest.proofs.nils.soonest_nil.Lts as lts
-use Rattle.numbers.proofs.index.Reads as index-reads
-use Rattle.places.proofs.high.Reads as high-reads
-use Rattle.places.proofs.low.Reads as low-reads
-use Rattle.soonest.proofs.nils.in_row.Reads as in-row-reads
 
 abbrev Inv-loop : tie.InvT-loop
-Inv-loop vkind row begin end opens table at i₀ i = ?
+Inv-loop vkind row begin end opens table at i₀ i =
+    (i ≤ length opens) × ((doc : Doc) (r : Rule) (s : Nilled doc r at vkind row begin end opens) → Passed doc r at vkind row begin end opens s i)
 
 abbrev μ-loop : tie.MeasureT-loop
-μ-loop vkind row begin end opens table at i₀ i = ?
+μ-loop vkind row begin end opens table at i₀ i = length opens - i
 
--- src/nils.rt:41:9
+-- from the number of the version back to the head of the loop
+abbrev head : tie.After-index Inv-loop μ-loop → tie.At-loop Inv-loop μ-loop
+head c = c .before .before .before
+
+-- from the head of the loop back to the start
+abbrev entry : tie.At-loop Inv-loop μ-loop → tie.Start Inv-loop μ-loop
+entry c = c .before .before .before .before .before .before .before .before .before
+
+-- from its last place back to the number of the version
+abbrev number : tie.After-high Inv-loop μ-loop → tie.After-index Inv-loop μ-loop
+number c = c .before .before .before .before .before .before
+
 returns : tie.Need-returns Inv-loop μ-loop
-returns c = ?
+returns c = λ doc s. unspoilt-else doc _ _ _ (not-true _ (c .if1 .taken))
 
--- src/nils.rt:44:5
 loop-holds : tie.Need-loop-holds Inv-loop μ-loop
-loop-holds c = ?
+loop-holds c = (search needs, λ doc r s. passed-none doc r _ _ _ _ _ _ s)
 
--- src/nils.rt:45:23
 mul-index : tie.Need-mul-index Inv-loop μ-loop
-mul-index c = ?
+mul-index c = search needs
 
--- src/nils.rt:45:23
 shared-slice-read-index : tie.Need-shared-slice-read-index Inv-loop μ-loop
-shared-slice-read-index c = ?
+shared-slice-read-index c = search needs
 
--- src/nils.rt:45:13
 index-requires : tie.Need-index-requires Inv-loop μ-loop
-index-requires c κs = ?
+index-requires c κs = search needs
 
--- src/nils.rt:46:9
 add-i : tie.Need-add-i Inv-loop μ-loop
-add-i c = ?
+add-i c = search needs
 
--- src/nils.rt:47:12
+-- the version that is looked at has an entry in each column
+fits : (c : tie.After-index Inv-loop μ-loop) → let a = entry (head c) .args in Entered (a .vkind .now) (a .row .now) (a .begin .now) (a .end .now) (c .index .result)
+fits c = let p = entry (head c) .pre .1 in nil-here (p .0) _ _ _ _ _ _ _ (p .1) _ _ (c .index .ensures) (c .before .before .loop-test .taken)
+
 in-row-requires : tie.Need-in-row-requires Inv-loop μ-loop
-in-row-requires c κs = ?
+in-row-requires c κs = let h = fits c in (h .kind, h .row)
 
--- src/nils.rt:48:45
 mul-low : tie.Need-mul-low Inv-loop μ-loop
-mul-low c = ?
+mul-low c = let h = fits (c .before .before) in omega (arith, h .begin)
 
--- src/nils.rt:48:45
 shared-slice-read-low : tie.Need-shared-slice-read-low Inv-loop μ-loop
-shared-slice-read-low c = ?
+shared-slice-read-low c = let h = fits (c .before .before .before) in omega (arith, h .begin)
 
--- src/nils.rt:48:17
 low-requires : tie.Need-low-requires Inv-loop μ-loop
-low-requires c κs = ?
+low-requires c κs = let p = entry (head (c .before .before .before)) .pre in (p .0, p .1 .1 .counted)
 
--- src/nils.rt:49:45
 mul-high : tie.Need-mul-high Inv-loop μ-loop
-mul-high c = ?
+mul-high c = let h = fits (c .before .before .before .before) in omega (arith, h .end)
 
--- src/nils.rt:49:45
 shared-slice-read-high : tie.Need-shared-slice-read-high Inv-loop μ-loop
-shared-slice-read-high c = ?
+shared-slice-read-high c = let h = fits (c .before .before .before .before .before) in omega (arith, h .end)
 
--- src/nils.rt:49:21
 high-requires : tie.Need-high-requires Inv-loop μ-loop
-high-requires c κs = ?
+high-requires c κs = let p = entry (head (c .before .before .before .before .before)) .pre in (p .0, p .1 .1 .counted)
 
--- src/nils.rt:50:17
 returns-2 : tie.Need-returns-2 Inv-loop μ-loop
-returns-2 c = ?
+returns-2 c =
+    let n = number (c .before) in
+    let t = head n in
+    λ doc s.
+    passed-placed doc _ _ _ _ _ _ _ s _ _ (t .loop .inv .1 doc _ s) (n .index .ensures) _ _ (c .before .before .before .low .ensures) (c .before .high .ensures) (nil-kind _ (t .before .if1 .left)) (n .before .before .loop-test .taken)
 
--- src/nils.rt:44:5
 loop-less : tie.Need-loop-less Inv-loop μ-loop
-loop-less c = ?
+loop-less c = search needs
 
--- src/nils.rt:44:5
 loop-again : tie.Need-loop-again Inv-loop μ-loop
-loop-again c = ?
+loop-again c =
+    let n = number (c .before) in
+    let t = head n in
+    (search needs, λ doc r s. passed-unplaced doc r _ _ _ _ _ _ s _ _ (t .loop .inv .1 doc r s) (n .index .ensures) _ _ (c .before .before .before .low .ensures) (c .before .high .ensures) (λ l. omega (arith, c .if3 .left)))
 
--- src/nils.rt:44:5
 loop-less-2 : tie.Need-loop-less-2 Inv-loop μ-loop
-loop-less-2 c = ?
+loop-less-2 c = search needs
 
--- src/nils.rt:44:5
 loop-again-2 : tie.Need-loop-again-2 Inv-loop μ-loop
-loop-again-2 c = ?
+loop-again-2 c =
+    let n = c .before .before in
+    let t = head n in
+    (search needs, λ doc r s. passed-other doc r _ _ _ _ _ _ s _ _ (t .loop .inv .1 doc r s) (n .index .ensures) (c .before .in-row .ensures) (c .if2 .left))
 
--- src/nils.rt:27:1
 returns-3 : tie.Need-returns-3 Inv-loop μ-loop
-returns-3 c = ?
+returns-3 c =
+    let t = c .before in
+    λ doc s. passed-all doc _ _ _ _ _ _ _ s _ (t .loop .inv .1 doc _ s) (omega arith) _ (nil-kind _ (t .before .if1 .left))
 
 pub soonest-nil-spec : {M : Type 1} → statement M
 soonest-nil-spec =

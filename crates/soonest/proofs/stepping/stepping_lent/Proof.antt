@@ -108,7 +108,7 @@ reaching-requires c κs =
       g .counted,
       covers-of _ _ _ _ _ _ _ _ _ _ _ _ _ _ _ g _ _ (m .read-marks .ensures) _ _ (k .ensures .2) (k .ensures .1) _ (omega arith),
       p .0 .in-four,
-      (p .5 .0, closing-of _ _ _ _ _ _ _ _ _ _ _ _ _ _ _ g, g .judgeable, p .3),
+      (p .5 .0, closing-of _ _ _ _ _ _ _ _ _ _ _ _ _ _ _ g, g .judgeable),
     )
 
 sub-least : tie.Need-sub-least
