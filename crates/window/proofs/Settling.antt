@@ -1,6 +1,6 @@
 -- What the lists laid out for a rule give to the walk of its kind, and what that walk's answer is.
-use mathlib.Core.Path.{_≡_, refl}
-use mathlib.Core.Bool.{Bool, true, false, cond}
+use mathlib.Core.Path.{_≡_, refl, sym}
+use mathlib.Core.Bool.{Bool, true, false, _||_, cond, or-false}
 use mathlib.Core.Logic.{_⊎_, inl, inr, ⊎-elim}
 use mathlib.Core.List.{List}
 use Prim.Native.Nat.{ℕ, _≤_}
@@ -13,12 +13,13 @@ use Rattle.meaning.specs.declared.Found.{Found}
 use Rattle.meaning.specs.declared.Rule.{Rule}
 use Rattle.meaning.specs.Walk.{first}
 use Rattle.meaning.specs.Document.{Doc}
-use Rattle.meaning.specs.Rules.{isSequenced, ruleFields}
+use Rattle.meaning.specs.Rules.{isKey, isReference, isSequenced, ruleFields}
 use Rattle.meaning.specs.Window.{Window, shortened, meets, offendsIn, offenderIn}
 use Rattle.meaning.proofs.Basics.{went}
 use Rattle.meaning.proofs.Tables.{rule-row}
 use Rattle.prepare.specs.declared.Prepared.{Prepared}
 use Rattle.prepare.specs.Holders.{Skips}
+use Rattle.prepare.specs.Spoiling.{spoils, AsideIn}
 use Rattle.day.specs.Ready.{TermsBy, Terms, Ready, Referred}
 use Rattle.counting.specs.Ready.{Ready as Counted, Terms as Counting}
 use Rattle.window.specs.declared.layout.Layout.{Layout}
@@ -28,6 +29,13 @@ use Rattle.window.specs.Settled.{Settled}
 pub answer : (doc : Doc) (q r : Rule) (w : Window) {x : Found} → x ≡ first (offendsIn doc (meets doc w) w q r) 0 (doc .size) → x ≡ offenderIn doc q r w
 unfolding offenderIn
 answer doc q r w e = e
+
+-- a rule that is neither key nor reference is spoilt by no nil, so nothing is left aside
+pub aside : (doc : Doc) (q r : Rule) (w : Window) {x : Found} (k : ℕ) → r .kind ≡ k → (eqb k 1 || eqb k 3) ≡ false → x ≡ offenderIn doc q r w → AsideIn doc w q r x
+unfolding offenderIn spoils
+aside doc q r w k e t found =
+    let taken : (isKey r || isReference r) ≡ false = rw (← e) at t in
+    record { test = offendsIn doc (meets doc w) w q r; lowest = found; told = λ v. rw taken (sym (or-false (offendsIn doc (meets doc w) w q r v))) }
 
 -- the terms of a cardinality on a day are those in a window, with what it counts, but that none is asked for where it is shortened
 pub counting : (r : Rule) (mode low : ℕ) {high : ℕ} → Terms r mode low high → r .kind ≡ 4 → (w : Window) {short : Bool} {least : ℕ} → shortened w ≡ short → least ≡ cond short 0 low

@@ -1,4 +1,5 @@
-// The lowest offender of one window, for a non-sequenced rule of any kind; and the lists that it is worked out from.
+// The lowest offender of one window, for a non-sequenced rule of any kind, nils that a key or a reference does not take aside; and the lists that it is
+// worked out from.
 use layout::Layout;
 use meaning::Found;
 use meaning::Rule;
@@ -12,6 +13,7 @@ ghost use Rattle.meaning.specs.Document.{Doc};
 ghost use Rattle.meaning.specs.Rules.{isSequenced, ruleFields};
 ghost use Rattle.meaning.specs.Window.{Window, shortened, offenderIn};
 ghost use Rattle.prepare.specs.declared.Prepared.{Prepared};
+ghost use Rattle.prepare.specs.Spoiling.{AsideIn};
 ghost use Rattle.window.specs.Settled.{Settled};
 
 pub mod layout; // layout.rt: the lists of a rule
@@ -57,7 +59,7 @@ fn counted_at(
     )
 }
 
-// The lowest offender of a non-sequenced rule, whose lists are laid out, at a place, which is a window; `held` is the rule that it refers to,
+// The lowest offender of a non-sequenced rule, whose lists are laid out, at a place, which is a window, nils aside; `held` is the rule that it refers to,
 // prepared, if it is a reference. Cost: that of the one walk that the rule's kind asks for.
 pub fn offender_at(
     laid: Layout,
@@ -70,7 +72,7 @@ pub fn offender_at(
     here: Place,
 ) -> Found
     requires { ⌜ (ruleFields r ≡ true) × (isSequenced r ≡ false) × (here .from ≤ 36524) × ((doc : Doc) × (q : Rule) × Settled doc q r laid held (now begin) (now end) (now rep) (now group)) ⌝ }
-    ensures { λ x. ⌜ ((doc : Doc) → (q : Rule) → (w : Window) → Settled doc q r laid held (now (begin .entry)) (now (end .entry)) (now (rep .entry)) (now (group .entry)) → w .from ≡ here .from → w .to ≡ here .to → shortened w ≡ here .shortened → x ≡ offenderIn doc q r w) ⌝ }
+    ensures { λ x. ⌜ ((doc : Doc) → (q : Rule) → (w : Window) → Settled doc q r laid held (now (begin .entry)) (now (end .entry)) (now (rep .entry)) (now (group .entry)) → w .from ≡ here .from → w .to ≡ here .to → shortened w ≡ here .shortened → AsideIn doc w q r x) ⌝ }
 {
     let from = here.from;
     let to = here.to;

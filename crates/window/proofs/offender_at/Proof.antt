@@ -1,6 +1,7 @@
 -- `window::offender_at` meets its contract: the walk of the rule's kind answers.
+use mathlib.Core.Path.{refl}
 use native.Mathlib.Omega.{arith}
-use Rattle.window.proofs.Settling.{answer, early, needy, own-rows, held-rows, way, rooms}
+use Rattle.window.proofs.Settling.{answer, aside, early, needy, own-rows, held-rows, way, rooms}
 use Rattle.window.proofs.offender_at.Statement.{statement}
 use Rattle.window.proofs.offender_at.Tie as tie
 
@@ -34,7 +35,7 @@ counted-at-requires c κs =
     (p .0, p .1, c .if1 .taken, (p .3 .0, p .3 .1, _, p .3 .2))
 
 returns : tie.Need-returns
-returns c = λ doc q w s from to short. c .counted-at .ensures doc q _ w s from to short
+returns c = λ doc q w s from to short. aside doc q _ w 4 (c .before .if1 .taken) refl (c .counted-at .ensures doc q _ w s from to short)
 
 stepped-in-requires : tie.Need-stepped-in-requires
 stepped-in-requires c κs =
@@ -46,7 +47,7 @@ returns-2 : tie.Need-returns-2
 returns-2 c =
     let there = then2 (c .before) in
     let p = entry2 (there .before) .pre in
-    λ doc q w s from to short. answer doc q _ w (c .stepped-in .ensures doc q _ w (s .periods) (s .spread .stepping (there .if2 .taken) .1) (s .judgeable) (p .1) (there .if2 .taken) from to (p .2))
+    λ doc q w s from to short. aside doc q _ w 5 (there .if2 .taken) refl (answer doc q _ w (c .stepped-in .ensures doc q _ w (s .periods) (s .spread .stepping (there .if2 .taken) .1) (s .judgeable) (p .1) (there .if2 .taken) from to (p .2)))
 
 missing-in-requires : tie.Need-missing-in-requires
 missing-in-requires c κs =
@@ -59,7 +60,7 @@ returns-3 c =
     let there = then3 (c .before) in
     let k = there .if3 .taken in
     let p = entry3 (there .before) .pre in
-    λ doc q w s from to short. answer doc q _ w (c .missing-in .ensures doc q _ w (own-rows s (omega arith)) (held-rows s k) (p .1) k from to)
+    λ doc q w s from to short. c .missing-in .ensures doc q _ w (own-rows s (omega arith)) (held-rows s k) (p .1) k from to
 
 shared-in-requires : tie.Need-shared-in-requires
 shared-in-requires c κs =
@@ -77,8 +78,7 @@ returns-4 c =
     let no-count = second .before .before .if1 .left in
     let k = early _ (p .0) (other .if3 .left) no-count (second .if2 .left) in
     λ doc q w s from to short.
-    answer doc q _ w
-    (c .shared-in .ensures doc q _ w (own-rows s (omega (arith, k))) (s .classes) (p .1) from to (needy _ (p .0) (other .if3 .left) no-count (second .if2 .left)))
+    c .shared-in .ensures doc q _ w (own-rows s (omega (arith, k))) (s .classes) (p .1) from to (needy _ (p .0) (other .if3 .left) no-count (second .if2 .left))
 
 pub offender-at-spec : {M : Type 1} → statement M
 offender-at-spec =

@@ -3,6 +3,7 @@ use mir.Syntax.{w32}
 use native.Mathlib.Omega.{arith}
 use borrow.Author.Needs.{needs}
 use Rattle.numbers.proofs.Signs.{given}
+use Rattle.prepare.proofs.Valued.{known-only}
 use Rattle.window.proofs.Spreading.{closing, spread-stepped}
 use Rattle.window.proofs.layout.lay_stepped.Statement.{statement}
 use Rattle.window.proofs.layout.lay_stepped.Tie as tie
@@ -55,7 +56,7 @@ returns c =
     let z = start .args .rule in
     λ doc t v w g o ok flat k.
     spread-stepped _ (t .kind .size) k (c .before .way-along .ensures _ (marks .mark-reaching .ensures))
-    (reach .reaches-swept .ensures doc _ (closing v w (after-keys at .keys-of .ensures doc t v) g (start .pre .1) o) ok flat (given w32 {z = z .low} (bounds .0 .1)) (given w32 {z = z .high} (bounds .1 .0 .1)))
+    (reach .reaches-swept .ensures doc _ (closing v w (after-keys at .keys-of .ensures doc t v) g (start .pre .1) o) ok (known-only doc _ flat (omega arith)) (given w32 {z = z .low} (bounds .0 .1)) (given w32 {z = z .high} (bounds .1 .0 .1)))
 
 pub lay-stepped-spec : {M : Type 1} → statement M
 lay-stepped-spec =
