@@ -34,7 +34,7 @@ module _ (doc : Doc) (q r : Rule) (at : Places) (ok : Judgeable doc) (sequenced 
   windowed = eqb-true (r .windowed) 0 sequenced
 
   -- and at a place of the rule it is
-  there-day : (k : ℕ) → k < at .count → meets doc (windowAt at k) ≡ presentOn doc (startOf at k)
+  pub there-day : (k : ℕ) → k < at .count → meets doc (windowAt at k) ≡ presentOn doc (startOf at k)
   there-day k h = λ i v. (sym (alive-meets windowed placed counted doc v k h) ∙ sym (ok .present (startOf at k) v)) i
 
   pub on-day : (k : ℕ) → k < at .count → offenderAt doc q r (windowAt at k) ≡ offender doc q r (startOf at k)

@@ -112,11 +112,12 @@ module _ {doc : Doc} {kinds vkinds names parents begins ends : List ℕ} {values
   pub armed : {own held : Prepared} {laid : Layout} {reps : List ℕ} → Represents doc reps → Rows doc r (own .start) (own .next) (own .last) (own .lower)
       → Marks (readsOwn doc r) (doc .size) (own .read) → (isReference r ≡ true → Rowed doc q held) → (Rowed doc r own → (x : Rule) × Rowed doc x held)
       → (isSequenced r ≡ false → Spread doc r (laid .start) (laid .next) (laid .last) (laid .lower) groups)
-      → Armed doc p r own laid held begins ends reps groups
+      → Armed doc p r own laid held vkinds begins ends reps groups
   armed {own} v rows read referred some spread =
       let mine : Rowed doc r own = record { rows = rows; read = read } in
       let other = some mine in
       record {
+        nilling = record { vkind = k .values-held .vkind; periods = k .periods; represents = v; few = k .judgeable .few };
         on-days = record {
           rowed = mine;
           other = other .0;

@@ -4,5 +4,6 @@ pub mod DayVerdict
 pub mod WindowVerdict
 pub mod Verdicts
 pub mod Stops
+pub mod Lower
 pub mod Gathering
 pub mod Counting

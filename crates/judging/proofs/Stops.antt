@@ -10,11 +10,13 @@ use Rattle.meaning.specs.declared.Found.the-variants.{At, Nothing}
 use Rattle.meaning.specs.declared.Rule.{Rule}
 use Rattle.meaning.specs.Document.{Doc}
 use Rattle.meaning.specs.Rules.{isSequenced, ruleFields}
-use Rattle.meaning.specs.Day.{offender}
-use Rattle.meaning.specs.Window.{shortened, offenderIn}
+use Rattle.meaning.specs.Day.{presentOn}
+use Rattle.meaning.specs.Window.{shortened, meets}
 use Rattle.meaning.proofs.Basics.{le-or-lt}
 use Rattle.meaning.proofs.Tables.{rule-row}
 use Rattle.columns.specs.Judgeable.{Judgeable}
+use Rattle.prepare.specs.Spoiling.{Aside, AsideOn, AsideIn}
+use Rattle.soonest.specs.Soon.{offendsAt}
 use Rattle.places.specs.declared.Places.{Places}
 use Rattle.places.specs.declared.Place.{Place}
 use Rattle.places.specs.Placing.{startOf, endOf, windowAt, Counted, Placed, on-days, whole-period, in-days, in-months}
@@ -23,8 +25,7 @@ use Rattle.places.proofs.Shortened.{shortened-at}
 use Rattle.judging.specs.declared.walking.Stop.{Stop}
 use Rattle.judging.specs.declared.walking.Stop.the-variants.{Here, Nowhere}
 use Rattle.judging.specs.Stopping.{offenderAt, Clear, Stands, Offended, Stopped}
-use Rattle.judging.proofs.DayVerdict.{on-day, day-end}
-use Rattle.judging.proofs.WindowVerdict.{as-in-window}
+use Rattle.judging.proofs.DayVerdict.{there-day, day-end}
 
 module _ {doc : Doc} {q r : Rule} {at : Places} {k : ℕ} where
   pub clear-next : {j : ℕ} → Clear doc q r at k j → offenderAt doc q r (windowAt at j) ≡ Nothing → Clear doc q r at k (j + 1)
@@ -71,12 +72,19 @@ pub short-there : {at : Places} {here : Place} → Counted at → Stands at here
 short-there {here = here} c s = shortened-at c (here .number) (s .inside) ∙ sym (s .shortened)
 
 module _ (doc : Doc) (q r : Rule) {at : Places} {here : Place} (s : Stands at here) where
-  pub found-on-day : {x : Found} → Judgeable doc → isSequenced r ≡ true → Placed r at → Counted at → x ≡ offender doc q r (here .from)
-      → x ≡ offenderAt doc q r (windowAt at (here .number))
-  found-on-day ok t p c e = e ∙ ap (offender doc q r) (s .from) ∙ sym (on-day doc q r at ok t p c (here .number) (s .inside))
+  -- by the mode, those that offend on the day, or in the window, offend at the place
+  pub aside-on-day : {x : Found} → Judgeable doc → isSequenced r ≡ true → Placed r at → Counted at → AsideOn doc (presentOn doc (here .from)) q r x
+      → Aside doc (meets doc (windowAt at (here .number))) r (offendsAt doc (windowAt at (here .number)) q r) x
+  unfolding offendsAt
+  aside-on-day {x} ok t p c a =
+      let same : presentOn doc (here .from) ≡ meets doc (windowAt at (here .number)) = ap (presentOn doc) (s .from) ∙ sym (there-day doc q r at ok t p c (here .number) (s .inside)) in
+      let there : AsideOn doc (meets doc (windowAt at (here .number))) q r x = rw same at a in
+      record { test = there .test; lowest = there .lowest; told = λ v. rw t (there .told v) }
 
-  pub found-in-window : {x : Found} → isSequenced r ≡ false → x ≡ offenderIn doc q r (windowAt at (here .number)) → x ≡ offenderAt doc q r (windowAt at (here .number))
-  found-in-window t e = e ∙ sym (as-in-window doc q r (windowAt at (here .number)) t)
+  pub aside-in-window : {x : Found} → isSequenced r ≡ false → AsideIn doc (windowAt at (here .number)) q r x
+      → Aside doc (meets doc (windowAt at (here .number))) r (offendsAt doc (windowAt at (here .number)) q r) x
+  unfolding offendsAt
+  aside-in-window t a = record { test = a .test; lowest = a .lowest; told = λ v. rw t (a .told v) }
 
 -- what is counted up to ends by the last day of all, and for a sequenced rule after the period's begin
 pub to-few : {at : Places} {here : Place} → Counted at → Stands at here → here .to ≤ 36525

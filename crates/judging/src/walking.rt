@@ -6,19 +6,24 @@ use places::Places;
 use prepare::Prepared;
 use window::layout::Layout;
 ghost use mathlib.Core.Path.{_≡_};
-ghost use mathlib.Core.Bool.{true, false, _||_};
-ghost use Prim.Native.Nat.{_≤_};
+ghost use mathlib.Core.Bool.{Bool, true, false, _||_};
+ghost use mathlib.Core.List.{List};
+ghost use Prim.Native.Nat.{ℕ, _≤_};
 ghost use Rattle.calendar.specs.Entries.{MonthTable};
 ghost use Rattle.meaning.specs.declared.Rule.{Rule};
+ghost use Rattle.meaning.specs.Walk.{first};
 ghost use Rattle.meaning.specs.Document.{Doc};
 ghost use Rattle.meaning.specs.Rules.{isKey, isUnique, isReference, isSequenced, ruleFields};
+ghost use Rattle.meaning.specs.Window.{meets};
 ghost use Rattle.values.specs.Represents.{Represents};
 ghost use Rattle.prepare.specs.Rows.{Rows};
+ghost use Rattle.prepare.specs.Spoiling.{spoils, Aside};
 ghost use Rattle.places.specs.declared.Places.{Places};
 ghost use Rattle.places.specs.Placing.{windowAt, Counted, Placed};
 ghost use Rattle.window.specs.Spread.{Spread};
 ghost use Rattle.judging.specs.Knowing.{Known};
-ghost use Rattle.judging.specs.Armed.{Armed};
+ghost use Rattle.soonest.specs.Soon.{offendsAt};
+ghost use Rattle.judging.specs.Armed.{Nilling, Armed};
 ghost use Rattle.judging.specs.Stopping.{offenderAt, Stands, Stopped};
 
 // Where the walk stopped, with the lowest offender there; or that it came to the end.
@@ -27,8 +32,55 @@ pub enum Stop {
     Nowhere,
 }
 
-// The lowest offender of a prepared rule at one place, on a day or in a window as the rule says. Cost: that of the look.
-fn offender_at(
+// The lower of two records that were looked for.
+fn lower(a: Found, b: Found) -> Found
+    ensures { λ x. ⌜ ((f g h : ℕ → Bool) → (n : ℕ) → a ≡ first f 0 n → b ≡ first g 0 n → ((v : ℕ) → h v ≡ (f v || g v)) → x ≡ first h 0 n) ⌝ }
+{
+    let Found::At(u) = a else {
+        return b;
+    };
+    let Found::At(v) = b else {
+        return a;
+    };
+    if u < v {
+        return a;
+    }
+    b
+}
+
+// The lowest version at one place that has a nil, if the rule, a key or a reference, takes none. Cost: a look for each selected version, and one for
+// each field version with a value of one that is present.
+fn spoilt_at(
+    own: Prepared,
+    vkind: &[u8],
+    begin: &[u16],
+    end: &[u16],
+    rep: &[u16],
+    r: Rule,
+    here: Place,
+) -> Found
+    requires { ⌜ ((doc : Doc) × Rows doc r (own .start) (own .next) (own .last) (own .lower) × Nilling doc (now vkind) (now begin) (now end) (now rep)) ⌝ }
+    ensures { λ x. ⌜ ((doc : Doc) → (at : Places) → Rows doc r (own .start) (own .next) (own .last) (own .lower) → Nilling doc (now (vkind .entry)) (now (begin .entry)) (now (end .entry)) (now (rep .entry)) → Stands at here → x ≡ first (spoils doc (meets doc (windowAt at (here .number))) r) 0 (doc .size)) ⌝ }
+{
+    if !((r.kind == 1) | (r.kind == 3)) {
+        return Found::Nothing;
+    }
+    sharing::nils::nil_in(
+        own.start,
+        &own.next,
+        &own.last,
+        &own.lower,
+        vkind,
+        begin,
+        end,
+        rep,
+        here.from,
+        here.to,
+    )
+}
+
+// The lowest offender of a prepared rule at one place, on a day or in a window as the rule says, nils aside. Cost: that of the look.
+fn aside_at(
     own: Prepared,
     laid: Layout,
     held: Prepared,
@@ -39,13 +91,34 @@ fn offender_at(
     r: Rule,
     here: Place,
 ) -> Found
-    requires { ⌜ (ruleFields r ≡ true) × (here .from ≤ 36524) × ((doc : Doc) × (q : Rule) × Armed doc q r own laid held (now begin) (now end) (now rep) (now group)) ⌝ }
-    ensures { λ x. ⌜ ((doc : Doc) → (q : Rule) → (at : Places) → Armed doc q r own laid held (now (begin .entry)) (now (end .entry)) (now (rep .entry)) (now (group .entry)) → Placed r at → Counted at → Stands at here → x ≡ offenderAt doc q r (windowAt at (here .number))) ⌝ }
+    requires { ⌜ (ruleFields r ≡ true) × (here .from ≤ 36524) × ((doc : Doc) × (q : Rule) × (vkinds : List ℕ) × Armed doc q r own laid held vkinds (now begin) (now end) (now rep) (now group)) ⌝ }
+    ensures { λ x. ⌜ ((doc : Doc) → (q : Rule) → (vkinds : List ℕ) → (at : Places) → Armed doc q r own laid held vkinds (now (begin .entry)) (now (end .entry)) (now (rep .entry)) (now (group .entry)) → Placed r at → Counted at → Stands at here → Aside doc (meets doc (windowAt at (here .number))) r (offendsAt doc (windowAt at (here .number)) q r) x) ⌝ }
 {
     if r.windowed == 0 {
         return day::offender_at(own, held, begin, end, rep, r, here);
     }
     window::offender_at(laid, held, begin, end, rep, group, r, here)
+}
+
+// The lowest offender of a prepared rule at one place: the lowest that a nil spoils, or that offends otherwise. Cost: that of both looks.
+fn offender_at(
+    own: Prepared,
+    laid: Layout,
+    held: Prepared,
+    vkind: &[u8],
+    begin: &[u16],
+    end: &[u16],
+    rep: &[u16],
+    group: &[u16],
+    r: Rule,
+    here: Place,
+) -> Found
+    requires { ⌜ (ruleFields r ≡ true) × (here .from ≤ 36524) × ((doc : Doc) × (q : Rule) × Armed doc q r own laid held (now vkind) (now begin) (now end) (now rep) (now group)) ⌝ }
+    ensures { λ x. ⌜ ((doc : Doc) → (q : Rule) → (at : Places) → Armed doc q r own laid held (now (vkind .entry)) (now (begin .entry)) (now (end .entry)) (now (rep .entry)) (now (group .entry)) → Placed r at → Counted at → Stands at here → x ≡ offenderAt doc q r (windowAt at (here .number))) ⌝ }
+{
+    let spoilt = spoilt_at(own, vkind, begin, end, rep, r, here);
+    let other = aside_at(own, laid, held, begin, end, rep, group, r, here);
+    lower(other, spoilt)
 }
 
 // The first of a prepared rule's places, from number `first` on, that has an offender. Cost: a look at each place up to it.
@@ -56,19 +129,20 @@ fn walk(
     own: Prepared,
     laid: Layout,
     held: Prepared,
+    vkind: &[u8],
     begin: &[u16],
     end: &[u16],
     rep: &[u16],
     group: &[u16],
     r: Rule,
 ) -> Stop
-    requires { ⌜ MonthTable (now table) × (ruleFields r ≡ true) × Placed r at × Counted at × ((doc : Doc) × (q : Rule) × Armed doc q r own laid held (now begin) (now end) (now rep) (now group)) ⌝ }
-    ensures { λ x. ⌜ ((doc : Doc) → (q : Rule) → Armed doc q r own laid held (now (begin .entry)) (now (end .entry)) (now (rep .entry)) (now (group .entry)) → Stopped doc q r at first x) ⌝ }
+    requires { ⌜ MonthTable (now table) × (ruleFields r ≡ true) × Placed r at × Counted at × ((doc : Doc) × (q : Rule) × Armed doc q r own laid held (now vkind) (now begin) (now end) (now rep) (now group)) ⌝ }
+    ensures { λ x. ⌜ ((doc : Doc) → (q : Rule) → Armed doc q r own laid held (now (vkind .entry)) (now (begin .entry)) (now (end .entry)) (now (rep .entry)) (now (group .entry)) → Stopped doc q r at first x) ⌝ }
 {
     let mut k = first;
     while k < at.count {
         let here = places::place_at(table, at, k);
-        let found = offender_at(own, laid, held, begin, end, rep, group, r, here);
+        let found = offender_at(own, laid, held, vkind, begin, end, rep, group, r, here);
         if let Found::At(v) = found {
             return Stop::Here(here, v);
         }
@@ -160,5 +234,18 @@ pub fn stop_from(
         own,
         r,
     );
-    walk(table, at, first, own, laid, held, begin, end, rep, group, r)
+    walk(
+        table,
+        at,
+        first,
+        own,
+        laid,
+        held,
+        vkind,
+        begin,
+        end,
+        rep,
+        group,
+        r,
+    )
 }

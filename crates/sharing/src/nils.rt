@@ -1,7 +1,7 @@
 // The lowest version that has a nil, in a window; a day is a window of one day.
+use crate::first_missing;
 use columns::LIMIT;
 use meaning::Found;
-use crate::first_missing;
 ghost use mathlib.Core.Path.{_≡_};
 ghost use mathlib.Core.Bool.{_&&_, not};
 ghost use Prim.Native.Nat.{ℕ, _≤_, _<_};

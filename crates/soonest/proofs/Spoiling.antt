@@ -89,13 +89,15 @@ module _ (doc : Doc) (r : Rule) (places : Places) (vkinds rows begins ends opens
       let some = any-true _ 0 (doc .size) (t .1) in
       let f = some .0 in
       let g = simp says at (some .1 .passes) in
-      let in-row : inRow doc r v f ≡ true = simp says ((t .0 .0, g .0 .0 .0), low-wants doc r f kind ∙ g .0 .1) in
-      (f, record {
-        nil = s .vkind .at f ∙ g .1;
-        row = omega (arith, row-is doc r rows (s .rows-are) v f in-row, row-held doc r v f in-row, s .vkind .size);
-        version = row-version doc r v f in-row;
-        here = g .0 .0 .1;
-      })
+      let in-row : inRow doc r v f ≡ true = simp says ((t .0 .0, g .0 .0 .0), low-wants doc r f kind ∙ g .0 .1) in (
+        f,
+        record {
+          nil = s .vkind .at f ∙ g .1;
+          row = omega (arith, row-is doc r rows (s .rows-are) v f in-row, row-held doc r v f in-row, s .vkind .size);
+          version = row-version doc r v f in-row;
+          here = g .0 .0 .1;
+        },
+      )
 
   -- of the first i versions none is a nil in a row with a place
   pub record Passed (i : ℕ) : Type 0 where

@@ -1,34 +1,31 @@
--- `judging::walking::offender_at` meets its contract: the lowest offender of the day, or of the window, is that of the place.
-use mathlib.Core.Path.{sym}
+-- `judging::walking::offender_at` meets its contract: what offends is spoilt by a nil, or offends otherwise.
 use borrow.Author.Needs.{needs}
-use borrow.Author.Tests.{eq-eqb, ne-eqb}
-use Rattle.judging.proofs.Stops.{found-on-day, found-in-window, short-there}
+use Rattle.soonest.specs.Soon.{offendsAt}
+use Rattle.judging.specs.Stopping.{offenderAt}
 use Rattle.judging.proofs.walking.offender_at.Statement.{statement}
 use Rattle.judging.proofs.walking.offender_at.Tie as tie
 
--- from the test of the rule's mode back to the start
-abbrev entry : tie.After-struct-known → tie.Start
+-- from the last column back to the start
+abbrev entry : tie.After-shared-slice-known5 → tie.Start
 entry c = c .before .before .before .before .before
 
-offender-at-requires : tie.Need-offender-at-requires
-offender-at-requires c κs = search needs
+spoilt-at-requires : tie.Need-spoilt-at-requires
+spoilt-at-requires c κs = let a = entry c .pre .2 in (a .0, a .2 .on-days .rowed .rows, a .2 .nilling)
+
+aside-at-requires : tie.Need-aside-at-requires
+aside-at-requires c κs = let p = entry (c .before) .pre in (p .0, p .1, (p .2 .0, p .2 .1, _, p .2 .2))
+
+lower-requires : tie.Need-lower-requires
+lower-requires c κs = search needs
 
 returns : tie.Need-returns
+unfolding offenderAt
 returns c =
-    let t = eq-eqb _ 0 (c .before .if1 .taken) in
-    λ doc q at a p n s. found-on-day doc q _ s (a .on-days .judgeable) t p n (c .offender-at .ensures doc q (a .on-days) t)
-
-offender-at-requires-2 : tie.Need-offender-at-requires-2
-offender-at-requires-2 c κs =
-    let p = entry (c .before) .pre in
-    let t = ne-eqb _ 0 (c .if1 .left) in
-    (p .0, t, p .1, (p .2 .0, p .2 .1, p .2 .2 .in-windows t))
-
-returns-2 : tie.Need-returns-2
-returns-2 c =
-    let t = ne-eqb _ 0 (c .before .if1 .left) in
-    λ doc q at a p n s. found-in-window doc q _ s t (c .offender-at2 .ensures doc q _ (a .in-windows t) (sym (s .from)) (sym (s .to)) (short-there n s))
+    let other = c .before .aside-at .ensures in
+    let spoilt = c .before .before .spoilt-at .ensures in
+    λ doc q at a p n s.
+    let t = other doc q _ at a p n s in
+    c .lower .ensures (t .test) _ (offendsAt doc _ q _) _ (t .lowest) (spoilt doc at (a .on-days .rowed .rows) (a .nilling) s) (t .told)
 
 pub offender-at-spec : {M : Type 1} → statement M
-offender-at-spec =
-    tie.close (tie.spec offender-at-requires returns offender-at-requires-2 returns-2)
+offender-at-spec = tie.close (tie.spec spoilt-at-requires aside-at-requires lower-requires returns)

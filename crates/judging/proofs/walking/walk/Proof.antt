@@ -11,15 +11,15 @@ use Rattle.judging.proofs.walking.walk.Statement.{statement}
 use Rattle.judging.proofs.walking.walk.Tie as tie
 
 abbrev Inv-loop : tie.InvT-loop
-Inv-loop table at first own laid held begin end rep group r k₀ k =
-    (doc : Doc) → (q : Rule) → Armed doc q r own laid held begin end rep group → Clear doc q r at first k
+Inv-loop table at first own laid held vkind begin end rep group r k₀ k =
+    (doc : Doc) → (q : Rule) → Armed doc q r own laid held vkind begin end rep group → Clear doc q r at first k
 
 abbrev μ-loop : tie.MeasureT-loop
-μ-loop table at first own laid held begin end rep group r k₀ k = at .count - k
+μ-loop table at first own laid held vkind begin end rep group r k₀ k = at .count - k
 
 -- from the head of the loop back to the start
 abbrev entry : tie.At-loop Inv-loop μ-loop → tie.Start Inv-loop μ-loop
-entry c = c .before .before .before .before .before
+entry c = c .before .before .before .before .before .before
 
 -- from the place that is asked about back to the head of the loop
 abbrev head : tie.After-place-at Inv-loop μ-loop → tie.At-loop Inv-loop μ-loop
