@@ -1,4 +1,6 @@
 // The public face of the checker: the slice of a day, the change days of a rule and the verdict on a rule, for every byte string; and a node image written from records, for all columns.
+#![tactic(auto)]
+
 ghost use Rattle.meaning.specs.Lent.{lent};
 ghost use Rattle.writer.specs.Promise.{WritePromise};
 ghost use Rattle.opening.specs.Promises.{VerdictPromise, SlicePromise, ChangesPromise};

@@ -1,4 +1,6 @@
 // The checker's program: prints the report on `nodes.blk` and `rules.blk` of its folder, every rule judged by the quick engine.
+#![tactic(auto)]
+
 fn main() {
     checking::check(false);
 }

@@ -1,4 +1,6 @@
 // The writer's program: reads `records.txt` of its folder and makes `nodes.blk` of the records that it lists, or prints why it does not.
+#![tactic(auto)]
+
 ghost use Rattle.std.specs.Prelude.{◌≡◌};
 ghost use Rattle.meaning.specs.Lent.{lent};
 ghost use Rattle.meaning.specs.Nodes.{image_of};

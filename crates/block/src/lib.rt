@@ -1,4 +1,6 @@
 // Images of blocks of 512 bytes: one reader for both kinds, with the check, the header and the zeros of each block; then how many records there are, and the bytes of one.
+#![tactic(auto)]
+
 ghost use Rattle.std.specs.Prelude.{◌≡◌, ℕ, ◌+◌, ◌*◌, ◌/◌, ◌%◌, ◌^◌, ◌<◌, ◌≤◌, length, if◌then◌else◌};
 ghost use Rattle.meaning.specs.Order.{in_order};
 ghost use Rattle.meaning.specs.Block.{node_form, rule_form, check_step, check, all_zero, check_fits, header_fits, rest_zero, read_block, size_fits, image_tests};

@@ -1,4 +1,6 @@
 // The months from January 2000 on: the day on which each starts, counted from 1 January 2000, and the month that starts on a given day.
+#![tactic(auto)]
+
 ghost use Rattle.std.specs.Prelude.{◌≡◌};
 ghost use Rattle.calendar.specs.Gregorian.{month_start, month_on};
 ghost use Rattle.calendar.specs.Entries.{MonthTable};

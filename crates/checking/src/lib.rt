@@ -1,5 +1,7 @@
 // What the checkers do: read `nodes.blk` and `rules.blk` of the folder and print the report on them, by either engine, or the name of the one
 // that cannot be read, nodes first.
+#![tactic(auto)]
+
 ghost use Rattle.std.specs.Prelude.{◌≡◌};
 ghost use Rattle.report.specs.Text.{report_of};
 

@@ -1,5 +1,7 @@
 // A document in columns, a slice or an array for each field of its records: how many there can be, what came of reading them, and chains
 // through the records of one kind.
+#![tactic(auto)]
+
 pub mod chains; // chains.rt: the records of one kind, chained by a key
 
 // The most records of a document: full blocks, as many as an image can have.

@@ -1,4 +1,6 @@
 // The lowest offender of one window, for a non-sequenced cardinality rule.
+#![tactic(auto)]
+
 ghost use Rattle.std.specs.Prelude.{◌≡◌};
 ghost use Rattle.meaning.specs.declared.Rule.{Rule};
 ghost use Rattle.meaning.specs.Walk.{first};

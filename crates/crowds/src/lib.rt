@@ -1,4 +1,6 @@
 // The pass over crowds: the soonest place at which more than so many records of one key are present at once.
+#![tactic(auto)]
+
 ghost use Rattle.std.specs.Prelude.{◌≡◌, ◌-◌, ◌≤◌, length};
 ghost use Rattle.meaning.specs.Block.{limit};
 ghost use Rattle.crowds.specs.Crowds.{ByMany, Ordered};

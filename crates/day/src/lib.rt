@@ -1,4 +1,6 @@
 // The lowest offender of one day, for a sequenced rule of any kind; that a nil spoils a key and a reference is left aside here.
+#![tactic(auto)]
+
 ghost use Rattle.std.specs.Prelude.{◌≡◌, true, ℕ, ◌≤◌, length, get_or};
 ghost use Rattle.meaning.specs.declared.Rule.{Rule};
 ghost use Rattle.meaning.specs.Walk.{any, first};

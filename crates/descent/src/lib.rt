@@ -1,5 +1,7 @@
 // The slice of a day, the long way from the root down: an item looks for its one current version, a version looks at each of its items.
 // `past` and `past_j` are one past a record of a chain, and 0 at its end.
+#![tactic(auto)]
+
 ghost use Rattle.std.specs.Prelude.{◌≡◌, ◌&&◌, ◌||◌, List, ℕ, ◌-◌, ◌<◌, ◌≤◌, leb, ltb, length, take};
 ghost use Rattle.meaning.specs.declared.Reading.TheVariants.{Accepted};
 ghost use Rattle.meaning.specs.Block.{limit};

@@ -1,4 +1,6 @@
 // The tests 4 to 10 of document 01 on the columns of a document, a slice for each field of the records.
+#![tactic(auto)]
+
 ghost use Rattle.std.specs.Prelude.{◌≡◌};
 ghost use Rattle.meaning.specs.Document.{columns};
 ghost use Rattle.meaning.specs.Nodes.{accept};

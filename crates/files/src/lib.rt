@@ -1,4 +1,6 @@
 // Files of the working folder, read into lent buffers; what an operating system call brings is not proved, only that it fits.
+#![tactic(auto)]
+
 ghost use Rattle.std.specs.Prelude.{length};
 ghost use Rattle.files.specs.Within.{Within};
 

@@ -1,4 +1,6 @@
 // The verdict on one rule over the columns of a document: the soonest of its places, days or windows, that has an offender.
+#![tactic(auto)]
+
 ghost use Rattle.std.specs.Prelude.{◌≡◌, true, ◌||◌, ℕ, ◌-◌, ◌≤◌, ◌<◌, length, take};
 ghost use Rattle.calendar.specs.Entries.{MonthTable};
 ghost use Rattle.meaning.specs.declared.Rule.{Rule};

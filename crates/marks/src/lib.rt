@@ -1,4 +1,6 @@
 // Marked numbers: the next one, how many, and all of them stored in a lent list.
+#![tactic(auto)]
+
 ghost use Rattle.std.specs.Prelude.{◌≡◌, ◌++◌, ◌-◌, ◌≤◌, length, drop};
 ghost use Rattle.meaning.specs.declared.Reading.TheVariants.{Accepted};
 ghost use Rattle.meaning.specs.Walk.{pick};

@@ -1,4 +1,6 @@
 // The records and the answers of docs/MEANING.md, as the code passes them and the definitions in specs/ use them.
+#![tactic(auto)]
+
 // The lowest number that passes a test, or that none does.
 #[derive(Drop)]
 pub enum Found {

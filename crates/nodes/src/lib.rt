@@ -1,4 +1,6 @@
 // A node image unpacked into columns: refusals 1 to 10, and the decoded document where it is accepted.
+#![tactic(auto)]
+
 ghost use Rattle.std.specs.Prelude.{◌≡◌, length};
 ghost use Rattle.meaning.specs.declared.Node.{Node};
 ghost use Rattle.meaning.specs.Nodes.{read_nodes};

@@ -1,4 +1,6 @@
 // Numbers in bytes, little-endian, and signed numbers: read, written, compared and subtracted; numbers of a column as indices. Every proof on signed values stands in this crate.
+#![tactic(auto)]
+
 ghost use Rattle.std.specs.Prelude.{◌≡◌, ◌&&◌, [], ◌∷◌, ◌+◌, ◌*◌, ◌≤◌, ◌<◌, pos, ◌-ℤ◌, length};
 ghost use Rattle.std.specs.Int.Signed.{le_z, mag};
 ghost use Rattle.meaning.specs.Bytes.{two, four, signed, eq_z, pair, quad, bits};

@@ -1,5 +1,7 @@
 // Images opened, once for any number of questions: the columns of a node image, and beside them whether a rule table is accepted too.
 // Every call on images, of either engine, begins here.
+#![tactic(auto)]
+
 ghost use Rattle.meaning.specs.Rules.{read_rules};
 ghost use Rattle.nodes.specs.Unpacking.{Unpacks, together};
 ghost use Rattle.std.specs.Prelude.{◌≡◌};

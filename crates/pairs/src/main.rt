@@ -2,6 +2,8 @@
 // on them, whether the node image comes back when its records are written again, and each rule on which a false alarm was followed; then, if
 // there is a `plain.blk`, two slices and two verdicts of the plain engine for each pair of it. The test program of every public call, over many
 // pairs in one process. A pair is a header of 20 bytes and the two images (`tests/README.md`).
+#![tactic(auto)]
+
 ghost use Rattle.std.specs.Prelude.{◌≤◌};
 
 use columns::{Columns, Loaded};

@@ -1,5 +1,7 @@
 // The parts of an offence, each with the soonest place at which there is one: two records in a row, one value of two owners, a value that nobody has,
 // too few and too many of one key. They are found by sweeps over columns of numbers, with no document and no rule, and in columns that are lent.
+#![tactic(auto)]
+
 ghost use Rattle.std.specs.Prelude.{◌≡◌, cond, ◌≤◌, ltb};
 
 use numbers::index;

@@ -1,5 +1,7 @@
 // Passes: one sweep over records in the order of their first places, and the soonest place at which something is amiss. They know columns
 // of numbers and no document: a record belongs to a pass if its key is below `room`. What a scratch array holds beforehand is of no account.
+#![tactic(auto)]
+
 ghost use Rattle.std.specs.Prelude.{◌≡◌, false, ℕ, ◌≤◌, ◌<◌, eqb, length, get_or};
 ghost use Rattle.meaning.specs.Block.{limit};
 ghost use Rattle.meaning.specs.Walk.{count};

@@ -1,4 +1,6 @@
 // The part of an order that a rule reads, and the places of its records: what the finder goes along.
+#![tactic(auto)]
+
 ghost use Rattle.std.specs.Prelude.{◌≡◌, cond, ◌||◌, ℕ, ◌≤◌, ◌<◌, eqb, ltb, length};
 ghost use Rattle.meaning.specs.Block.{limit};
 ghost use Rattle.marks.specs.Marks.{marked, Marks};

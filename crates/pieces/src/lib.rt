@@ -1,5 +1,7 @@
 // Pieces: the stretches of places on which a row has one record only, and a pass for gaps whose supplies come in an order of their own. They
 // know columns of numbers and no document: a record is in a row if its key is below n. What a scratch array holds beforehand is of no account.
+#![tactic(auto)]
+
 ghost use Rattle.std.specs.Prelude.{◌≡◌, ◌≤◌, ◌<◌, length};
 ghost use Rattle.meaning.specs.Block.{limit};
 ghost use Rattle.pieces.specs.Lone.{Laid, Stretched};

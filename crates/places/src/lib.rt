@@ -1,5 +1,7 @@
 // The places of a rule, each a stretch of days: the days of a sequenced rule, or the windows of another; and from which place up to which a
 // version is present.
+#![tactic(auto)]
+
 ghost use Rattle.std.specs.Prelude.{◌≡◌, true, ◌≤◌, leb};
 ghost use Rattle.calendar.specs.Entries.{MonthTable};
 ghost use Rattle.meaning.specs.Rules.{rule_fields};

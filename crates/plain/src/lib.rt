@@ -1,5 +1,7 @@
 // The plain engine: the slice of a day and the verdict on a sequenced rule, worked out the long way, for every byte string. It shares the readers
 // and the columns with the quick engine (`bank`) and nothing else; what its calls promise is what those of `bank` promise.
+#![tactic(auto)]
+
 ghost use Rattle.opening.specs.Promises.{SlicePromise, SequencedPromise};
 
 use columns::Loaded;

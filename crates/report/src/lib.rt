@@ -1,5 +1,7 @@
 // The text of a report on two images, in a lent buffer: a header and a line for each rule, or one line that says why there is none. Its
 // sequenced rules are judged by either engine: the text is the same.
+#![tactic(auto)]
+
 ghost use Rattle.std.specs.Prelude.{◌≡◌, List, ℕ, ◌<◌, length};
 ghost use Rattle.meaning.specs.Rules.{rules_of};
 ghost use Rattle.meaning.specs.Answer.{verdict};

@@ -1,5 +1,7 @@
 // Rule images: what comes of reading one, how many rules it has, and each of them. Reading takes one pass over the blocks,
 // one over the records, each of which is decoded once, and one over two columns that are kept of them.
+#![tactic(auto)]
+
 mod decode;
 mod fields;
 mod references;

@@ -1,5 +1,7 @@
 // Reads cases of a selector from `selections.blk` of its folder, and prints the line on each. The test program of selectors, over many cases in
 // one process. A case is a header of eight bytes, the length of a text and that of a dictionary, and behind it the bytes of the two.
+#![tactic(auto)]
+
 ghost use Rattle.std.specs.Prelude.{◌≤◌};
 
 use libc::STDOUT_FILENO;

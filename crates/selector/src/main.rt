@@ -1,4 +1,6 @@
 // The selector's program: reads the files `text` and `dictionary` of its folder, and prints the path that they come to, or why they come to none.
+#![tactic(auto)]
+
 ghost use Rattle.selector.specs.Printed.{Printed};
 
 use files::Got;

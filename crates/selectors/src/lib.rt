@@ -1,4 +1,6 @@
 // Selectors typed by people: a text such as `bank/mixer` and a dictionary of names, read into the path and the length of a rule record.
+#![tactic(auto)]
+
 ghost use Rattle.std.specs.Prelude.{◌≡◌};
 ghost use Rattle.selectors.specs.Selecting.{no_path, SelectorPromise};
 

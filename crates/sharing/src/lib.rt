@@ -1,4 +1,6 @@
 // The lowest offender of one window, for a non-sequenced key, unique or reference rule, nils aside; and the lowest version that has a nil.
+#![tactic(auto)]
+
 ghost use Rattle.std.specs.Prelude.{◌≡◌, ◌⊎◌, true, false, ℕ, ◌≤◌, length, get_or};
 ghost use Rattle.meaning.specs.declared.Rule.{Rule};
 ghost use Rattle.meaning.specs.Walk.{any, first};

@@ -1,5 +1,7 @@
 // The soonest place at which a rule can fail: at no place before it does a version offend. It is found in one sweep over the versions that the rule
 // reads, in the order of their begins, for each part of an offence, and only that one-sided fact is promised: at the place itself the rule may hold.
+#![tactic(auto)]
+
 ghost use Rattle.std.specs.Prelude.{◌≡◌, true, ◌≤◌};
 ghost use Rattle.calendar.specs.Entries.{MonthTable};
 ghost use Rattle.meaning.specs.declared.Rule.{Rule};

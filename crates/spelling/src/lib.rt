@@ -1,4 +1,6 @@
 // Text put together in a lent buffer, piece by piece; what does not fit is left out.
+#![tactic(auto)]
+
 ghost use Rattle.std.specs.Prelude.{take, ◌≡◌};
 ghost use Rattle.spelling.specs.Spelled.{decimal, spaced};
 ghost use Rattle.spelling.specs.Puts.{Puts};

@@ -1,5 +1,7 @@
 // The lowest offender of one window, for a non-sequenced datatype rule: how far back a window must reach for each field version to offend,
 // worked out once for the rule, and a walk over those that can offend.
+#![tactic(auto)]
+
 ghost use Rattle.std.specs.Prelude.{◌≡◌, false, ◌<◌, ◌≤◌, eqb, ltb, length, get_or};
 ghost use Rattle.meaning.specs.declared.Rule.{Rule};
 ghost use Rattle.meaning.specs.Walk.{first};

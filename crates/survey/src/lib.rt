@@ -1,5 +1,7 @@
 // What is found once for a document, for all its rules: a representative for each value, a class for each item number, and the versions in
 // the order of their begins and of their ends.
+#![tactic(auto)]
+
 ghost use Rattle.std.specs.Prelude.{◌≡◌, ℕ, ◌≤◌};
 ghost use Rattle.meaning.specs.Document.{Doc};
 ghost use Rattle.columns.specs.Lent.{Values, Periods, Numbers};

@@ -1,4 +1,6 @@
 // Items of one number, looked at in passes over the records and never in pairs: an item below which none clashes with a lower one.
+#![tactic(auto)]
+
 mod names; // names.rt: numbers, then names: the items of one number as a class
 mod days; // days.rt: then days: whether the versions of one class lie apart
 

@@ -1,4 +1,6 @@
 // Records typed as a text, read into columns: how many there are on the first line, then a line of eight numbers for each.
+#![tactic(auto)]
+
 ghost use Rattle.std.specs.Prelude.{◌≡◌, ◌+◌, ◌≤◌};
 ghost use Rattle.meaning.specs.Block.{limit};
 ghost use Rattle.meaning.specs.Lent.{lent};

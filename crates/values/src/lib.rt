@@ -1,4 +1,6 @@
 // A representative for each version, equal exactly for equal values, so that two values are compared by comparing two numbers.
+#![tactic(auto)]
+
 ghost use Rattle.std.specs.Prelude.{◌≡◌, [], map, ◌<◌, ◌≤◌, ◌%◌, length, get_or};
 ghost use Rattle.std.specs.Int.Signed.{mag};
 ghost use Rattle.meaning.specs.Document.{Doc};

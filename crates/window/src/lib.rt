@@ -1,5 +1,7 @@
 // The lowest offender of one window, for a non-sequenced rule of any kind, nils that a key or a reference does not take aside; and the lists that it is
 // worked out from.
+#![tactic(auto)]
+
 ghost use Rattle.std.specs.Prelude.{◌≡◌, true, false, cond, ◌≤◌};
 ghost use Rattle.meaning.specs.declared.Rule.{Rule};
 ghost use Rattle.meaning.specs.Document.{Doc};

@@ -1,4 +1,6 @@
 // Records written to an image: from lent columns to whole blocks, each filled from its own place onward, or refused and nothing stored.
+#![tactic(auto)]
+
 ghost use Rattle.meaning.specs.Lent.{lent};
 ghost use Rattle.writer.specs.Promise.{WritePromise};
 

@@ -1,5 +1,7 @@
 // Reads cases of records from `writes.blk` of its folder, has each written to a lent image, and prints the answer and the image after it. The
 // test program of the writer, over many cases in one process. A case is a header of 40 bytes and eight columns (`tests/README.md`).
+#![tactic(auto)]
+
 ghost use Rattle.std.specs.Prelude.{◌*◌, ◌≤◌, length};
 
 use libc::STDOUT_FILENO;
