@@ -1,6 +1,6 @@
 -- Whether a record offends hangs on the presence of the versions that the rule reads and on no others: once over the kind, on a day and in a window.
 use mathlib.Core.Path.{◌≡◌, refl, ap, ap₂, fun_ext}
-use mathlib.Core.Logic.{⊎_elim, ◌⊎◌}
+use mathlib.Core.Logic.{⊎_elim}
 use mathlib.Core.Bool.{Bool, true, false, ◌&&◌, ◌||◌, not}
 use Prim.Native.Nat.{ℕ, zero, suc}
 use lib.Dec.{eqb, leb}

@@ -8,7 +8,7 @@ use lib.ListN.{length}
 use Rattle.meaning.specs.declared.Found.TheVariants.{At, Nothing}
 use Rattle.meaning.specs.declared.Rule.{Rule}
 use Rattle.meaning.specs.declared.Verdict.TheVariants.{Holds, Fails}
-use Rattle.meaning.specs.Walk.{pick, first, found, place}
+use Rattle.meaning.specs.Walk.{pick, found, place}
 use Rattle.meaning.specs.Document.{Doc}
 use Rattle.meaning.specs.Day.{offender, is_change, change_days, first_failing, on_days}
 use Rattle.meaning.proofs.Basics.{went, le_or_lt}

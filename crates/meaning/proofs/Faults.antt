@@ -9,7 +9,7 @@ use Rattle.meaning.specs.declared.Rule.{Rule}
 use Rattle.meaning.specs.declared.Found.{Found}
 use Rattle.meaning.specs.declared.Found.TheVariants.{At, Nothing}
 use Rattle.meaning.specs.declared.Verdict.TheVariants.{Holds, Fails}
-use Rattle.meaning.specs.Walk.{first, found, place}
+use Rattle.meaning.specs.Walk.{found, place}
 use Rattle.meaning.specs.Document.{Doc}
 use Rattle.meaning.specs.Day.{present_on, offends, offender, is_change, change_days, first_failing, on_days}
 use Rattle.meaning.proofs.Basics.{went, clear, le_or_lt}

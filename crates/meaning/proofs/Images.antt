@@ -29,7 +29,7 @@ zeros-front (suc n) (x ∷ s) =
     let rest = zeros-front n s in (
       λ e k.
           let p = simp says at e in
-          elim k [ zero ↦ λ h. p.0 | suc j ↦ λ h. rest.0 p.1 j (omega arith) ],
+          elim k as (λ k. k < suc n → byte (x ∷ s) k ≡ 0) [ zero ↦ λ h. p.0 | suc j ↦ λ h. rest.0 p.1 j (omega arith) ],
       λ h. simp says (h 0 (omega arith), rest.1 (λ k l. h (suc k) (omega arith))),
     )
 

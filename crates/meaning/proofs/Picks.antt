@@ -1,6 +1,6 @@
 -- Lists of numbers picked by a test: ascending, each once, with the members that pass, and how many.
 use mathlib.Core.Path.{◌≡◌, refl, ap, sym, ◌∙◌, fun_ext}
-use mathlib.Core.Logic.{⊎_elim, ◌⊎◌}
+use mathlib.Core.Logic.{⊎_elim}
 use mathlib.Core.Bool.{Bool, true, false, ◌&&◌, ◌||◌, cond}
 use mathlib.Core.List.{List, [], ◌∷◌}
 use Prim.Native.Nat.{ℕ, zero, suc, ◌+◌, ◌-◌, ◌*◌, ◌≤◌, ◌<◌}
@@ -9,7 +9,7 @@ use native.Mathlib.Omega.{arith}
 use lib.Dec.{eqb}
 use lib.ListN.{length, get_or}
 use borrow.Author.Tests.{eqb-true, ne_eqb}
-use Rattle.meaning.specs.Walk.{any, count, pick, place}
+use Rattle.meaning.specs.Walk.{any, count, pick}
 use Rattle.meaning.proofs.Basics.{went}
 use Rattle.meaning.proofs.Walks.{None}
 

@@ -6,7 +6,7 @@ use Prim.Native.Nat.{ℕ, suc, ◌%◌, ◌≤◌, ◌<◌}
 use lib.ListN.{length, take}
 use Rattle.meaning.specs.Bytes.{byte, four}
 use Rattle.meaning.specs.declared.Form.{Form}
-use Rattle.meaning.specs.Block.{node_form, rule_form, blocks, block_at, counted, record_at, records, record_of}
+use Rattle.meaning.specs.Block.{node_form, rule_form, blocks, block_at, counted, record_at, record_of}
 use Rattle.meaning.specs.Document.{Doc, node}
 use Rattle.meaning.specs.Nodes.{doc_of}
 use Rattle.meaning.specs.Rules.{rule_at, rules_of}

@@ -4,33 +4,31 @@ use mathlib.Core.Path.{◌≡◌, refl, sym, ap, ◌∙◌}
 use mathlib.Core.Logic.{◌↔◌, ◌⊎◌, inl, inr, ⊎_elim}
 use mathlib.Core.Bool.{Bool, true, false, ◌&&◌, ◌||◌, not, cond, false≢true}
 use mathlib.Core.List.{List, [], ◌∷◌}
-use Prim.Native.Nat.{ℕ, zero, suc, ◌+◌, ◌*◌, ◌≤◌, ◌<◌}
+use Prim.Native.Nat.{ℕ, zero, suc, ◌+◌, ◌≤◌, ◌<◌}
 use native.Mathlib.Omega.{arith}
 use lib.IntN.{ℤ, pos}
 use lib.Signed.{le_z}
-use lib.ListN.{length}
 use borrow.Author.Tests.{ltb-true, lt-ltb}
 use Rattle.calendar.specs.Gregorian.{month_day, month_start}
-use Rattle.calendar.proofs.Months.{month_ascends, start_in, start_last, start_past}
+use Rattle.calendar.proofs.Months.{month_ascends, start_in, start_past}
 use Rattle.meaning.specs.declared.Found.{Found}
 use Rattle.meaning.specs.declared.Found.TheVariants.{Nothing}
 use Rattle.meaning.specs.declared.Rule.{Rule}
 use Rattle.meaning.specs.declared.Reading.{Reading}
 use Rattle.meaning.specs.declared.Reading.TheVariants.{Accepted, Refused}
-use Rattle.meaning.specs.declared.Verdict.{Verdict}
-use Rattle.meaning.specs.declared.Verdict.TheVariants.{Holds, Refused as Unjudged}
-use Rattle.meaning.specs.Walk.{count, first}
+use Rattle.meaning.specs.declared.Verdict.TheVariants.{Holds}
+use Rattle.meaning.specs.Walk.{count}
 use Rattle.meaning.specs.Document.{Doc, number_of}
 use Rattle.meaning.specs.Nodes.{doc_of}
 use Rattle.meaning.specs.Rules.{by_kind, is_sequenced, rule_at, rules_of}
 use Rattle.meaning.specs.Select.{within, present}
 use Rattle.meaning.specs.Window.{Window, shortened, meets, counts, cardinality_in, breaks_in, offends_in, offender_in, windows, judge, in_windows}
 use Rattle.meaning.specs.Answer.{referred_by, judged, verdict_after, read_verdict, verdict}
-use Rattle.meaning.proofs.Basics.{went, le_or_lt, never, and_l, and_r, both}
+use Rattle.meaning.proofs.Basics.{went, le_or_lt}
 use Rattle.meaning.proofs.Walks.{first-same, first-none, first-nothing}
 use Rattle.meaning.proofs.Rows.{RuleRow}
 use Rattle.meaning.proofs.Timetable.{Nth, Sooner, IsWindow, the_period, of_days, of_months}
-use Rattle.meaning.proofs.Windows.{Clear, judge-holds, clear-holds}
+use Rattle.meaning.proofs.Windows.{judge-holds, clear-holds}
 use Rattle.meaning.proofs.Before.{cardinality_before, breaks_before, offender_before, judged_before, verdict_before}
 
 -- the natural end lies past the period's end, or past the last entry of the month table

@@ -10,7 +10,6 @@ use Rattle.meaning.specs.declared.Rule.{Rule}
 use Rattle.meaning.specs.declared.Found.{Found}
 use Rattle.meaning.specs.declared.Found.TheVariants.{At, Nothing}
 use Rattle.meaning.specs.declared.Verdict.TheVariants.{Holds, Fails}
-use Rattle.meaning.specs.Walk.{first}
 use Rattle.meaning.specs.Document.{Doc}
 use Rattle.meaning.specs.Window.{Window, meets, offends_in, offender_in, windows, judge, in_windows}
 use Rattle.meaning.proofs.Timetable.{Nth}

@@ -3,12 +3,8 @@
 use mathlib.Core.Path.{refl}
 use Rattle.calendar.specs.Gregorian.{month_length}
 use Rattle.calendar.proofs.Table.{steps, table-right}
-use Rattle.calendar.proofs.starts.Statement.{statement}
-use Rattle.calendar.proofs.starts.Tie as tie
+use Rattle.calendar.proofs.starts.Goals as goal
 
-returns : tie.Need-returns
+pub returns : goal.returns
 unfolding steps month_length
 returns c = table-right _ refl refl
-
-pub starts-spec : {M : Type 1} → statement M
-starts-spec = tie.close (tie.spec returns)
