@@ -1,5 +1,5 @@
 -- Windows, the offenders of a window, and the verdict of a non-sequenced rule (MEANING 10, 11, 12).
-use Rattle.std.specs.Prelude.{ℕ, zero, suc, ◌+◌, ◌-◌, Bool, ◌&&◌, ◌||◌, not, cond, List, [], ◌∷◌, pos, ◌-ℤ◌, leb, ltb, eqb}
+use Rattle.std.specs.Prelude.{ℕ, zero, suc, ◌+◌, ◌-◌, Bool, false, ◌&&◌, ◌||◌, not, cond, List, [], ◌∷◌, pos, ◌-ℤ◌, leb, ltb, eqb}
 use Rattle.std.specs.Int.Signed.{le_z}
 use Rattle.meaning.specs.Rules.{by_kind}
 use Rattle.calendar.specs.declared.Month.{Month}
