@@ -2,11 +2,7 @@
 use lib.IntN.{pos}
 use mir.Facts.{sfits_lit}
 use Rattle.numbers.proofs.Signs.{same_bits}
-use Rattle.numbers.proofs.is_zero.Statement.{statement}
-use Rattle.numbers.proofs.is_zero.Tie as tie
+use Rattle.numbers.proofs.is_zero.Goals as goal
 
-returns : tie.Need-returns
+pub returns : goal.returns
 returns c = same_bits {b = pos 0} c.ranges.z (sfits_lit tt)
-
-pub is-zero-spec : {M : Type 1} → statement M
-is-zero-spec = tie.close (tie.spec returns)
