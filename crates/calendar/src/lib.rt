@@ -8,7 +8,7 @@ ghost use Rattle.calendar.specs.Entries.{MonthTable};
 mod hundred_years; // hundred_years.rt: the table of month starts
 
 // Which month starts on a day: its number, counted from January 2000, or none.
-#[derive(Drop)]
+#[derive(Clone, Copy)]
 pub enum Month {
     Number(usize),
     Absent,

@@ -16,7 +16,7 @@ use meaning::Listed;
 use numbers::index;
 
 // Where a walk along the two orders stands: how many positions of each it has passed, and the day that it has come to.
-#[derive(Drop)]
+#[derive(Clone, Copy)]
 pub struct Place {
     pub begun: usize,
     pub ended: usize,

@@ -8,7 +8,7 @@ pub mod chains; // chains.rt: the records of one kind, chained by a key
 pub const LIMIT: usize = block::NODES.each * block::NODES.most;
 
 // What comes of unpacking an image: how many records there are, or refused with a number and a place.
-#[derive(Drop)]
+#[derive(Clone, Copy)]
 pub enum Loaded {
     Nodes(usize),
     Refused(usize, usize),

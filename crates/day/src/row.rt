@@ -6,7 +6,7 @@ use crate::{COUNTED, REFERRING};
 use numbers::index;
 
 // How many of a row are present, and the representative of the last of them that the walk met.
-#[derive(Drop)]
+#[derive(Clone, Copy)]
 pub struct Tally {
     pub count: usize,
     pub rep: usize,

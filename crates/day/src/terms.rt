@@ -6,7 +6,7 @@ ghost use Rattle.day.specs.Ready.{Terms};
 use meaning::Rule;
 
 // A mode, and the bounds of a count.
-#[derive(Drop)]
+#[derive(Clone, Copy)]
 pub struct Bounds {
     pub mode: u8,
     pub low: usize,

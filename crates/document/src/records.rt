@@ -14,7 +14,7 @@ use numbers::index;
 const DEEPEST: u8 = 8;
 
 // What comes of one record by itself: the record, or the number of the test that it fails.
-#[derive(Drop)]
+#[derive(Clone, Copy)]
 pub enum Decoded {
     Node(Node),
     Refused(usize),

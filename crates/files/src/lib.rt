@@ -5,7 +5,7 @@ ghost use Rattle.std.specs.Prelude.{length};
 ghost use Rattle.files.specs.Within.{Within};
 
 // What reading a file comes to: how many bytes of the buffer are its own, or that it cannot be read.
-#[derive(Drop)]
+#[derive(Clone, Copy)]
 pub enum Got {
     Bytes(usize),
     Unreadable,

@@ -31,7 +31,7 @@ mod walking; // walking.rt: the walk over the places, from one of them on
 
 // What is found of a rule: the verdict, and how many of its places were looked into for it. One is enough where the rule fails and none where it
 // holds; more say that the soonest place was a false alarm, which costs time and is never a wrong answer.
-#[derive(Drop)]
+#[derive(Clone, Copy)]
 pub struct Judged {
     pub verdict: Verdict,
     pub looked: usize,

@@ -23,7 +23,7 @@ use prepare::Prepared;
 use window::layout::Layout;
 
 // Where the walk stopped, with the lowest offender there; or that it came to the end.
-#[derive(Drop)]
+#[derive(Clone, Copy)]
 pub enum Stop {
     Here(Place, usize),
     Nowhere,

@@ -12,7 +12,7 @@ ghost use Rattle.literal.specs.Counts.{Counts};
 use numbers::index;
 
 // How many values a version has, and where it has any, the record that gives the last of them.
-#[derive(Drop)]
+#[derive(Clone, Copy)]
 pub struct Tally {
     pub many: usize,
     pub only: usize,

@@ -2,14 +2,14 @@
 #![tactic(auto)]
 
 // The lowest number that passes a test, or that none does.
-#[derive(Drop)]
+#[derive(Clone, Copy)]
 pub enum Found {
     At(usize),
     Nothing,
 }
 
 // What comes of reading an image: accepted, or refused with a number and a place.
-#[derive(Drop)]
+#[derive(Clone, Copy)]
 pub enum Reading {
     Accepted,
     Refused(usize, usize),
@@ -17,7 +17,7 @@ pub enum Reading {
 
 // The answer on one rule: holds, with how many slices or windows were looked at; fails, with the day, the record
 // and how many; or refused, with a number and a place.
-#[derive(Drop)]
+#[derive(Clone, Copy)]
 pub enum Verdict {
     Holds(usize),
     Fails(usize, usize, usize),
@@ -25,14 +25,14 @@ pub enum Verdict {
 }
 
 // The answer of a call that fills a lent list: how many numbers it stored, or refused with a number and a place.
-#[derive(Drop)]
+#[derive(Clone, Copy)]
 pub enum Listed {
     Stored(usize),
     Refused(usize, usize),
 }
 
 // The answer of a call that writes an image: how many bytes it wrote, or refused with a number and a place.
-#[derive(Drop)]
+#[derive(Clone, Copy)]
 pub enum Output {
     Written(usize),
     Refused(usize, usize),
@@ -40,7 +40,7 @@ pub enum Output {
 
 // One kind of image: the block's kind byte, the bytes of a record, the records of a full block, the most blocks, and what is
 // added to the number of a refusal.
-#[derive(Drop)]
+#[derive(Clone, Copy)]
 pub struct Form {
     pub kind: u8,
     pub size: usize,
@@ -50,7 +50,7 @@ pub struct Form {
 }
 
 // A node record, field by field; spare is bytes 18 and 19.
-#[derive(Drop)]
+#[derive(Clone, Copy)]
 pub struct Node {
     pub kind: u8,
     pub vkind: u8,
@@ -64,7 +64,7 @@ pub struct Node {
 }
 
 // A rule record, field by field, without its must-be-zero bytes.
-#[derive(Drop)]
+#[derive(Clone, Copy)]
 pub struct Rule {
     pub kind: u8,
     pub windowed: u8,

@@ -17,7 +17,7 @@ mod units; // units.rt: how many units start before a day
 
 // The places of a rule: whether their units are months, the first unit, how many units a place spans, how many the next one is further on,
 // the day on which the period ends, how many places there are, and how many of them are whole: the period's end cuts none of those short.
-#[derive(Drop)]
+#[derive(Clone, Copy)]
 pub struct Places {
     pub monthly: bool,
     pub first: usize,
@@ -29,7 +29,7 @@ pub struct Places {
 }
 
 // A place: its number, from 0, the days from `from` up to, not including, `to`, and whether the period's end cuts it short.
-#[derive(Drop)]
+#[derive(Clone, Copy)]
 pub struct Place {
     pub number: usize,
     pub from: usize,

@@ -15,7 +15,7 @@ use columns::LIMIT;
 use meaning::{Found, Rule};
 
 // Where a walk over the days stopped, with the lowest offender of that day; or that no day has one.
-#[derive(Drop)]
+#[derive(Clone, Copy)]
 pub enum Stop {
     Here(u16, usize),
     Nowhere,

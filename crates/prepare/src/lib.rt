@@ -28,7 +28,7 @@ pub const SMALL: usize = 256;
 
 // The selected versions, from `start` on by `next`; the row of each, down from `last` by `lower`, counted from one, 0 for none; and a mark
 // on each version that the rule reads.
-#[derive(Drop)]
+#[derive(Clone, Copy)]
 pub struct Prepared {
     pub start: usize,
     pub next: [u16; LIMIT],

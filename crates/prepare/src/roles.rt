@@ -13,7 +13,7 @@ use meaning::Rule;
 use numbers::index;
 
 // What is left of the path below a record, the version in whose row it is, LIMIT for none, and its mark as one that is read.
-#[derive(Drop)]
+#[derive(Clone, Copy)]
 pub struct Role {
     pub left: u8,
     pub row: u16,

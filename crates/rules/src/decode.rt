@@ -10,7 +10,7 @@ use meaning::{Reading, Rule};
 use numbers::{signed_at, two_at};
 
 // The numbers of a rule apart from its path, which is an array: to prove a function over an enum that holds one is dear.
-#[derive(Drop)]
+#[derive(Clone, Copy)]
 pub struct Numbers {
     pub kind: u8,
     pub windowed: u8,
@@ -28,7 +28,7 @@ pub struct Numbers {
 }
 
 // What comes of one record by itself: its numbers, or the number of the test that it fails.
-#[derive(Drop)]
+#[derive(Clone, Copy)]
 pub enum Decoded {
     Sound(Numbers),
     Refused(usize),

@@ -14,14 +14,14 @@ const FEW: usize = 4096;
 const MANY: usize = 262144;
 
 // A line: the place where its name ends, its number, and the place behind its line feed; or that it is none of the form.
-#[derive(Drop)]
+#[derive(Clone, Copy)]
 pub enum Line {
     Entry(usize, u16, usize),
     Bad,
 }
 
 // What comes of a dictionary: how many lines it has, or the number of the first bad one, from 0.
-#[derive(Drop)]
+#[derive(Clone, Copy)]
 pub enum Checked {
     Sound(usize),
     Bad(usize),

@@ -14,14 +14,14 @@ pub mod sieve; // sieve.rt: names that may have come before
 pub mod walk; // walk.rt: the steps of a text, looked up
 
 // What comes of a text and a dictionary: how many steps the path has, or refused with a number and a place.
-#[derive(Drop)]
+#[derive(Clone, Copy)]
 pub enum Selected {
     Path(usize),
     Refused(usize, usize),
 }
 
 // The answer, and beside it the eight numbers of a rule record's path, all 0 where it is refused.
-#[derive(Drop)]
+#[derive(Clone, Copy)]
 pub struct Selector {
     pub answer: Selected,
     pub path: [u16; 8],

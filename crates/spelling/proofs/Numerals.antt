@@ -14,6 +14,7 @@ use Rattle.spelling.specs.Spelled.{word, digits_of, decimal, spaced}
 
 as_digits : (f k n : ℕ) → k < f → n < 10 ^ suc k → (1 < suc k → 10 ^ k ≤ n) → last_digits 10 (suc k) n ≡ digits_of f n
 unfolding digits_of
+as_digits zero k n h few many = elim h [ ]
 as_digits (suc f) zero n h few many = rw (lt-ltb n 10 (omega arith), lt-ltb (n % 10) 10 (omega arith)) refl
 as_digits (suc f) (suc k) n h few many =
     let most : 10 ^ suc k ≤ n = many (omega arith) in

@@ -7,7 +7,7 @@ use crate::levels::raised;
 use numbers::index;
 
 // The least and the greatest of some numbers, moved up.
-#[derive(Drop)]
+#[derive(Clone, Copy)]
 struct Span {
     least: u64,
     most: u64,

@@ -15,7 +15,7 @@ pub struct Stacks {
 }
 
 // A leap, and how many steps it spares.
-#[derive(Drop)]
+#[derive(Clone, Copy)]
 struct Leap {
     to: u16,
     span: u16,

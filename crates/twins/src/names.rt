@@ -6,7 +6,7 @@ ghost use Rattle.twins.specs.Classed.{OwnPlaces, Classed, Alone};
 use columns::chains::namesake;
 
 // What looking at numbers and names gave: up to which item those of one number have one name, and whether any two have one number.
-#[derive(Drop)]
+#[derive(Clone, Copy)]
 pub struct Named {
     pub below: usize,
     pub shared: bool,

@@ -14,7 +14,7 @@ use scan::{LINE_FEED, SPACE, Scan, SignedScan, TOP, number_at, value_at};
 pub mod scan; // scan.rt: numbers in decimal
 
 // What comes of a text: how many records it says it has, or the number of the first line that is not in the form, from 1.
-#[derive(Drop)]
+#[derive(Clone, Copy)]
 pub enum Typed {
     Records(usize),
     Bad(usize),
@@ -35,7 +35,7 @@ pub struct TypedRecords {
 }
 
 // A record, and the place after its line; or that the line is not in the form.
-#[derive(Drop)]
+#[derive(Clone, Copy)]
 pub enum Line {
     Record(Node, usize),
     Bad,

@@ -3,21 +3,21 @@ ghost use Rattle.std.specs.Prelude.{◌≡◌, ◌<◌, ◌≤◌, min, length};
 ghost use Rattle.typed.specs.Numeral.{is_digit, longer, top, digits_at, stands, is_plain, number_at, value_at};
 
 // What digits spell, 4294967296 for all that is above, and the place after them.
-#[derive(Drop)]
+#[derive(Clone, Copy)]
 pub struct Digits {
     pub value: usize,
     pub next: usize,
 }
 
 // A number, and the place after the byte that ends it; or that none of the form asked for stands there.
-#[derive(Drop)]
+#[derive(Clone, Copy)]
 pub enum Scan {
     Number(usize, usize),
     Bad,
 }
 
 // The same of a signed number.
-#[derive(Drop)]
+#[derive(Clone, Copy)]
 pub enum SignedScan {
     Value(i32, usize),
     Bad,

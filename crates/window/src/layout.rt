@@ -16,7 +16,7 @@ use meaning::Rule;
 use prepare::Prepared;
 
 // A way along records, from `start` on by `next`, and two lists that are read along it: what they hold depends on the rule's kind.
-#[derive(Drop)]
+#[derive(Clone, Copy)]
 pub struct Layout {
     pub start: usize,
     pub next: [u16; LIMIT],
