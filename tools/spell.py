@@ -81,7 +81,7 @@ def taken(paths):
 def table():
     """The old and the new spelling of each name."""
     specs = files("crates/*/specs/**/*.antt")
-    lemmas = [path for path in files("crates/*/proofs/**/*.antt") if not path.endswith(("/Proof.antt", "/Answers.antt", "/Invariants.antt"))]
+    lemmas = [path for path in files("crates/*/proofs/**/*.antt") if path.count("/") == 3 or not path.endswith(("/Proof.antt", "/Answers.antt", "/Invariants.antt"))]
     names, parts = declared(specs + lemmas), fields(specs + lemmas)
     words = {snake(name).replace("_", "-"): snake(name) for name in declared(specs) if name[0].islower() and "-" not in name}
     new = {}

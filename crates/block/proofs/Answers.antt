@@ -38,14 +38,14 @@ module _ (form : Form) (last : Bool) (b : ℕ) (s : List ℕ) where
 abbrev pub cut : List ℕ → ℕ → List ℕ
 cut image b = take (512 * b + 512 - 512 * b) (drop (512 * b) image)
 
-pub cut-block : (image : List ℕ) (b : ℕ) → cut image b ≡ block_at image b
-cut-block image b =
+pub cut_block : (image : List ℕ) (b : ℕ) → cut image b ≡ block_at image b
+cut_block image b =
     let width : 512 * b + 512 - 512 * b ≡ 512 = omega arith in
     rw width
 
 -- what block b of an image says
-abbrev pub answerAt : Form → List ℕ → ℕ → Reading
-answerAt form image b = read_block form (eqb (suc b) (blocks image)) b (block_at image b)
+abbrev pub answer_at : Form → List ℕ → ℕ → Reading
+answer_at form image b = read_block form (eqb (suc b) (blocks image)) b (block_at image b)
 
 ends : (x : Reading) → and_then x Accepted ≡ x
 ends Accepted = refl
@@ -57,9 +57,9 @@ module _ (form : Form) (image : List ℕ) where
     unfolding in_order image_tests earliest
     bad-size f = rw (← e, not-true t f)
 
-    pub good-size : not t ≡ false → earliest (answerAt form image) 0 (blocks image - 0) ≡ in_order (image_tests form image)
+    pub good_size : not t ≡ false → earliest (answer_at form image) 0 (blocks image - 0) ≡ in_order (image_tests form image)
     unfolding in_order image_tests earliest
-    good-size f = rw (sub-zero, ← e, not-false t f) (sym (ends (earliest (answerAt form image) 0 (blocks image))))
+    good_size f = rw (sub-zero, ← e, not-false t f) (sym (ends (earliest (answer_at form image) 0 (blocks image))))
 
     -- all blocks are whole, and few
     pub whole-blocks : not t ≡ false → (512 * blocks image ≡ length image) × (blocks image ≤ form.most)
@@ -70,24 +70,24 @@ module _ (form : Form) (image : List ℕ) where
 
   -- block b, and those after it
   step : (b : ℕ) → b < blocks image
-      → earliest (answerAt form image) b (blocks image - b) ≡ and_then (answerAt form image b) (earliest (answerAt form image) (b + 1) (blocks image - (b + 1)))
+      → earliest (answer_at form image) b (blocks image - b) ≡ and_then (answer_at form image b) (earliest (answer_at form image) (b + 1) (blocks image - (b + 1)))
   unfolding earliest
   step b here =
       let e : blocks image - b ≡ suc (blocks image - (b + 1)) = omega arith in
       rw (e, add-one)
 
-  pub last-passed : (b : ℕ) → blocks image ≤ b → Accepted ≡ earliest (answerAt form image) b (blocks image - b)
+  pub last_passed : (b : ℕ) → blocks image ≤ b → Accepted ≡ earliest (answer_at form image) b (blocks image - b)
   unfolding earliest
-  last-passed b past =
+  last_passed b past =
       let e : blocks image - b ≡ 0 = omega arith in
       rw e
 
   module _ (b : ℕ) (here : b < blocks image) {a : Reading} (ea : a ≡ read_block form (eqb (b + 1) (blocks image)) b (cut image b)) where
-    said : answerAt form image b ≡ a
-    said = sym (rw (cut-block image b, add-one) at ea)
+    said : answer_at form image b ≡ a
+    said = sym (rw (cut_block image b, add-one) at ea)
 
-    pub passed : a ≡ Accepted → earliest (answerAt form image) (b + 1) (blocks image - (b + 1)) ≡ earliest (answerAt form image) b (blocks image - b)
+    pub passed : a ≡ Accepted → earliest (answer_at form image) (b + 1) (blocks image - (b + 1)) ≡ earliest (answer_at form image) b (blocks image - b)
     passed e = rw (step b here, said, e)
 
-    pub refused : {x y : ℕ} → a ≡ Refused x y → a ≡ earliest (answerAt form image) b (blocks image - b)
+    pub refused : {x y : ℕ} → a ≡ Refused x y → a ≡ earliest (answer_at form image) b (blocks image - b)
     refused e = rw (step b here, said, e)

@@ -5,7 +5,7 @@ use Rattle.meaning.specs.Block.{blocks, block_at, counted, record_at, records, r
 use Rattle.meaning.proofs.Sound.{SoundImage}
 use Rattle.meaning.proofs.Images.{image-sound}
 use Rattle.block.specs.Fair.{Read, Counted, Inside, Part}
-use Rattle.block.proofs.Answers.{cut, cut-block}
+use Rattle.block.proofs.Answers.{cut, cut_block}
 
 -- an image that was read has one block or more, all whole and not too many
 pub record Blocks (form : Form) (image : List ℕ) : Type 0 where
@@ -32,7 +32,7 @@ module _ {form : Form} {image : List ℕ} (r : Read form image) where
       let s = sound in
       let g = its_blocks in
       let last = s.each_block (blocks image - 1) (omega arith) in
-      let e : n ≡ counted (block_at image (blocks image - 1)) = rw (cut-block image (blocks image - 1)) at en in
+      let e : n ≡ counted (block_at image (blocks image - 1)) = rw (cut_block image (blocks image - 1)) at en in
       let all : form.each * (blocks image - 1) + form.each ≡ form.each * blocks image = one_more form.each (blocks image) g.some in
       record {
         count = rw (ep, e);

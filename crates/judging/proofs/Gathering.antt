@@ -127,7 +127,7 @@ module _ {doc : Doc} {kinds vkinds names parents begins ends : List ℕ} {values
           represents = v;
           judgeable = k.judgeable;
         };
-        in-windows = λ f.
+        in_windows = λ f.
             record {
               spread = spread f;
               referred = λ e. rw (same e) ((referred e).rows, valued_only doc q (kind e));

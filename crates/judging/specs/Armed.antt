@@ -22,4 +22,4 @@ pub record Nilling (doc : Doc) (vkinds begins ends reps : List ℕ) : Type 0 whe
 pub record Armed (doc : Doc) (q r : Rule) (own : Prepared) (laid : Layout) (held : Prepared) (vkinds begins ends reps groups : List ℕ) : Type 0 where
   pub nilling : Nilling doc vkinds begins ends reps
   pub on-days : SettledDay doc q r own held begins ends reps
-  pub in-windows : is_sequenced r ≡ false → SettledWindow doc q r laid held begins ends reps groups
+  pub in_windows : is_sequenced r ≡ false → SettledWindow doc q r laid held begins ends reps groups

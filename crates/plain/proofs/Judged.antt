@@ -44,8 +44,8 @@ module _ (nodes rules : List ℕ) (k : ℕ) (accepted : read_nodes nodes ≡ Acc
   windowed : r.windowed ≡ (rule_at (rules_of rules) k).windowed
   windowed = ap (λ (x : Rule). x.windowed) er
 
-  pub in-windows : (r.windowed ≡ 0 → ⊥) → SequencedPromise nodes rules k (Refused 11 0)
-  in-windows w = by-reading nodes rules k (changes_read_windowed nodes rules k accepted table h (λ e. w (windowed ∙ e)))
+  pub in_windows : (r.windowed ≡ 0 → ⊥) → SequencedPromise nodes rules k (Refused 11 0)
+  in_windows w = by-reading nodes rules k (changes_read_windowed nodes rules k accepted table h (λ e. w (windowed ∙ e)))
 
   pub on-every_day : r.windowed ≡ 0 → {x : Verdict} → x ≡ on_days (doc_of nodes) (referred_by (rules_of rules) k) r → SequencedPromise nodes rules k x
   on-every_day s e =

@@ -9,7 +9,7 @@ use lib.Dec.{eqb}
 use lib.ListN.{length, get_or}
 use Rattle.meaning.specs.declared.Reading.{Reading}
 use Rattle.meaning.specs.declared.Reading.TheVariants.{Accepted, Refused}
-use Rattle.meaning.specs.Order.{need, and_then, earliest, in_order}
+use Rattle.meaning.specs.Order.{need, and_then, earliest, orderly}
 use Rattle.meaning.specs.Block.{rule_form, image_tests, record_of}
 use Rattle.meaning.specs.Rules.{rule_at, rules_of, read_rule, refers_well, table_tests, read_rules}
 use Rattle.rules.specs.declared.decode.Decoded.{Decoded}
@@ -36,8 +36,8 @@ module _ (image : List ℕ) (n k : ℕ) {part : List ℕ} {d : Decoded} (t : Tab
     decodes = earliest-on (tells image) n k here (told ∙ rw e)
 
     -- what was decoded are the numbers of rule k
-    pub decodes-as : x ≡ numbers_of (rule_at (rules_of image) k)
-    decodes-as = taken (record_of rule_form image k) (ap decoded_in (sym ep) ∙ sym ed ∙ e) ∙ ap numbers_of (sym (rule_here image k (row t here).below))
+    pub decodes_as : x ≡ numbers_of (rule_at (rules_of image) k)
+    decodes_as = taken (record_of rule_form image k) (ap decoded_in (sym ep) ∙ sym ed ∙ e) ∙ ap numbers_of (sym (rule_here image k (row t here).below))
 
   pub stops : {m : ℕ} {x : Reading} → d ≡ decoded.Refused m → x ≡ said d k → x ≡ earliest (tells image) k (n - k)
   stops e ex = rw (ex, e) (earliest-stops (tells image) n k here (told ∙ rw e))
@@ -61,9 +61,9 @@ module _ (kind referred : List ℕ) (n k : ℕ) where
     pub refers-stops : not w ≡ true → Refused 26 k ≡ earliest (refers kind referred n) k (n - k)
     refers-stops p = earliest-stops (refers kind referred n) n k here (rw (← e, not-true w p))
 
-  pub no-reference : (get_or kind k 0 ≡ 3 → ⊥) → true ≡ refers_in kind referred n k
+  pub no_reference : (get_or kind k 0 ≡ 3 → ⊥) → true ≡ refers_in kind referred n k
   unfolding refers_in
-  no-reference h = rw (ne_eqb (get_or kind k 0) 3 h)
+  no_reference h = rw (ne_eqb (get_or kind k 0) 3 h)
 
   module _ (h : get_or kind k 0 ≡ 3) {to : ℕ} (e : to ≡ get_or referred k 0) where
     pub missing : n ≤ to → false ≡ refers_in kind referred n k
@@ -79,16 +79,16 @@ ends Accepted = refl
 ends (Refused number place) = refl
 
 -- 26 by the table
-abbrev wellIn : List ℕ → ℕ → Reading
-wellIn image k = need (refers_well (rules_of image) k) 26 k
+abbrev well_in : List ℕ → ℕ → Reading
+well_in image k = need (refers_well (rules_of image) k) 26 k
 
 -- the records, then the references
-in_turn : (image : List ℕ) → in_order (table_tests image (rules_of image))
-    ≡ and_then (earliest (read_rule image (rules_of image)) 0 (length (rules_of image))) (earliest (wellIn image) 0 (length (rules_of image)))
-unfolding in_order table_tests
-in_turn image = rw (ends (earliest (wellIn image) 0 (length (rules_of image))))
+in_turn : (image : List ℕ) → orderly (table_tests image (rules_of image))
+    ≡ and_then (earliest (read_rule image (rules_of image)) 0 (length (rules_of image))) (earliest (well_in image) 0 (length (rules_of image)))
+unfolding orderly table_tests
+in_turn image = rw (ends (earliest (well_in image) 0 (length (rules_of image))))
 
-module _ (image : List ℕ) {b : Reading} (eb : b ≡ in_order (image_tests rule_form image)) where
+module _ (image : List ℕ) {b : Reading} (eb : b ≡ orderly (image_tests rule_form image)) where
   pub bad-blocks : {x y : ℕ} → b ≡ Refused x y → RulesPromise image b
   unfolding read_rules
   bad-blocks e = rw (← eb, e)
@@ -98,6 +98,6 @@ module _ (image : List ℕ) {b : Reading} (eb : b ≡ in_order (image_tests rule
     unfolding read_rules
     bad-record e = rw (← eb, ok, in_turn image, ← en, ← er, e)
 
-    pub all_read : {t : Reading} → r ≡ Accepted → t ≡ earliest (wellIn image) 0 n → RulesPromise image t
+    pub all_read : {t : Reading} → r ≡ Accepted → t ≡ earliest (well_in image) 0 n → RulesPromise image t
     unfolding read_rules
     all_read e et = rw (← eb, ok, in_turn image, ← en, ← er, e, ← et)

@@ -49,7 +49,7 @@ counting r mode low t k w {short} e l =
     by_way true = refl
     by_way false = let s = rw k at t in s.1
 
-module _ (r : Rule) (f : rule_fields r ≡ true) (no-reference : r.kind ≡ 3 → ⊥) (no-count : r.kind ≡ 4 → ⊥) (no-type : r.kind ≡ 5 → ⊥) where
+module _ (r : Rule) (f : rule_fields r ≡ true) (no_reference : r.kind ≡ 3 → ⊥) (no-count : r.kind ≡ 4 → ⊥) (no-type : r.kind ≡ 5 → ⊥) where
   -- what is none of the later kinds is a key or a unique rule
   pub early : r.kind ≤ 2
   early = omega (arith, ((rule_row r).0 f).kind, ((rule_row r).0 f).kind_most)

@@ -1,6 +1,6 @@
 -- `block::read_blocks` meets its contract. The invariant: from block b on, the blocks that are left give the answer on the image.
 use Rattle.std.proofs.Common.{◌-◌, ◌∙◌, arith, length-drop, length-take, rules}
-use Rattle.block.proofs.Answers.{bad-size, good-size, whole-blocks, last-passed, passed, refused}
+use Rattle.block.proofs.Answers.{bad-size, good_size, whole-blocks, last_passed, passed, refused}
 use Rattle.block.proofs.read_blocks.Goals as goal
 
 pub returns-then-not-size_fits : goal.returns-then-not-size_fits
@@ -9,7 +9,7 @@ returns-then-not-size_fits c = bad-size _ _ c.size_fits.ensures c.if-not-size_fi
 pub loop-b-init : goal.loop-b-init
 loop-b-init c =
     let w = whole-blocks _ _ c.size_fits.ensures c.if-not-size_fits.false in
-    (omega arith, omega arith, w.0, good-size _ _ c.size_fits.ensures c.if-not-size_fits.false)
+    (omega arith, omega arith, w.0, good_size _ _ c.size_fits.ensures c.if-not-size_fits.false)
 
 pub read_block-answer-requires : goal.read_block-answer-requires
 read_block-answer-requires c = record { fair = search rules; whole = simp (length-take, length-drop) (omega arith); near = omega arith }
@@ -27,4 +27,4 @@ loop-b-preserved c =
 
 pub returns : goal.returns
 returns c =
-    last-passed _ c.args.image.now c.loop-b.b c.loop-b-test.false ∙ c.loop-b.invariant.3
+    last_passed _ c.args.image.now c.loop-b.b c.loop-b-test.false ∙ c.loop-b.invariant.3

@@ -11,7 +11,7 @@ use Rattle.rules.specs.Table.{Kept}
 use Rattle.rules.proofs.Walked.{earliest-ends}
 use Rattle.rules.proofs.Tables.{row}
 use Rattle.rules.proofs.Columns.{kept-none, kept_on, kept-all}
-use Rattle.rules.proofs.Answers.{tells, decodes, decodes-as, stops, stopped}
+use Rattle.rules.proofs.Answers.{tells, decodes, decodes_as, stops, stopped}
 use Rattle.rules.proofs.read_records.Statement.{statement}
 use Rattle.rules.proofs.read_records.Tie as tie
 
@@ -84,7 +84,7 @@ loop-again c =
     let inv = l.loop.invariant in
     let test = p.before.loop-test.true in
     let sound = c.before.decoded.given.1 in
-    let numbers = decodes-as s.args.image.now s.args.n l.loop.k s.pre.0 test p.record-in.ensures.bytes d.decode.ensures sound in (
+    let numbers = decodes_as s.args.image.now s.args.n l.loop.k s.pre.0 test p.record-in.ensures.bytes d.decode.ensures sound in (
       simp length-set inv.0,
       simp length-set inv.1,
       search rules,

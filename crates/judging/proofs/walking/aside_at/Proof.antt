@@ -22,12 +22,12 @@ offender-at-requires-2 : tie.Need-offender-at-requires-2
 offender-at-requires-2 c κs =
     let p = (entry c.before).requires in
     let t = ne_eqb _ 0 c.if1.false in
-    (p.0, t, p.1, (p.2.0, p.2.1, p.2.3.in-windows t))
+    (p.0, t, p.1, (p.2.0, p.2.1, p.2.3.in_windows t))
 
 returns-2 : tie.Need-returns-2
 returns-2 c =
     let t = ne_eqb _ 0 c.before.if1.false in
-    λ doc q vkinds at a p n s. aside_in_window doc q _ s t (c.offender-at2.ensures doc q _ (a.in-windows t) (sym s.from) (sym s.to) (short-there n s))
+    λ doc q vkinds at a p n s. aside_in_window doc q _ s t (c.offender-at2.ensures doc q _ (a.in_windows t) (sym s.from) (sym s.to) (short-there n s))
 
 pub aside-at-spec : {M : Type 1} → statement M
 aside-at-spec =

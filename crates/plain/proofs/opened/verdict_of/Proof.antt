@@ -1,7 +1,7 @@
 -- `plain::opened::verdict_of` meets its contract: a rule in windows; or the rule and the one that it refers to, judged over the columns' fronts.
 use borrow.Author.Rules.{rules}
 use Rattle.rules.proofs.Tables.{accepted-row}
-use Rattle.plain.proofs.Judged.{other-referred, other-itself, rule_fields_lem, other-fields, in-windows, on-every_day}
+use Rattle.plain.proofs.Judged.{other-referred, other-itself, rule_fields_lem, other-fields, in_windows, on-every_day}
 use Rattle.plain.proofs.opened.verdict_of.Statement.{statement}
 use Rattle.plain.proofs.opened.verdict_of.Tie as tie
 
@@ -32,7 +32,7 @@ rule-at-requires c κs =
 returns : tie.Need-returns
 returns c nodes o =
     let r = c.before.before in
-    in-windows nodes _ _ o.accepted o.table (start r.before).requires.0 r.rule-at.ensures c.if1.true
+    in_windows nodes _ _ o.accepted o.table (start r.before).requires.0 r.rule-at.ensures c.if1.true
 
 referred-rule-requires : tie.Need-referred-rule-requires
 referred-rule-requires c κs = let p = (start c.before.before.before).requires in (p.1.1.table, p.0)

@@ -1,6 +1,6 @@
 -- `rules::references::refers_well` meets its contract: no reference, one to no rule of the table, one to some rule.
 use borrow.Author.Rules.{rules}
-use Rattle.rules.proofs.Answers.{no-reference, missing, by_kind}
+use Rattle.rules.proofs.Answers.{no_reference, missing, by_kind}
 use Rattle.rules.proofs.references.refers_well.Statement.{statement}
 use Rattle.rules.proofs.references.refers_well.Tie as tie
 
@@ -8,7 +8,7 @@ shared-slice-read-if1 : tie.Need-shared-slice-read-if1
 shared-slice-read-if1 c = search rules
 
 returns : tie.Need-returns
-returns c = no-reference _ _ _ _ c.if1.true
+returns c = no_reference _ _ _ _ c.if1.true
 
 mul-index : tie.Need-overflow-mul-index
 mul-index c = search rules

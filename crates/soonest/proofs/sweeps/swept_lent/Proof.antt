@@ -64,7 +64,7 @@ returns-2 : tie.Need-returns-2
 returns-2 c =
     let a = windows-told c in
     let w = ne_eqb _ 0 (windows-asked a.before).if1.false in
-    λ doc q at s y e k z. a.in-windows.ensures doc q _ at s y e w (k w) refl z
+    λ doc q at s y e k z. a.in_windows.ensures doc q _ at s y e w (k w) refl z
 
 pub swept-lent-spec : {M : Type 1} → statement M
 swept-lent-spec =
