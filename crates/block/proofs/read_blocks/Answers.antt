@@ -1,15 +1,15 @@
 -- `block::read_blocks` meets its contract. The invariant: from block b on, the blocks that are left give the answer on the image.
-use Rattle.std.proofs.Common.{◌-◌, ◌∙◌, arith, length-drop, length-take, rules}
+use Rattle.std.proofs.Common.{ap, not, ◌-◌, ◌∙◌, arith, length-drop, length-take, rules}
 use Rattle.block.proofs.Answers.{bad-size, good_size, whole-blocks, last_passed, passed, refused}
 use Rattle.block.proofs.read_blocks.Goals as goal
 
 pub returns-then-not-size_fits : goal.returns-then-not-size_fits
-returns-then-not-size_fits c = bad-size _ _ c.size_fits.ensures c.if-not-size_fits.true
+returns-then-not-size_fits c = bad-size _ _ c.size_fits.ensures (ap not c.if-not-size_fits.true)
 
 pub loop-b-init : goal.loop-b-init
 loop-b-init c =
-    let w = whole-blocks _ _ c.size_fits.ensures c.if-not-size_fits.false in
-    (omega arith, omega arith, w.0, good_size _ _ c.size_fits.ensures c.if-not-size_fits.false)
+    let w = whole-blocks _ _ c.size_fits.ensures (ap not c.if-not-size_fits.false) in
+    (omega arith, omega arith, w.0, good_size _ _ c.size_fits.ensures (ap not c.if-not-size_fits.false))
 
 pub read_block-answer-requires : goal.read_block-answer-requires
 read_block-answer-requires c = record { fair = search rules; whole = simp (length-take, length-drop) (omega arith); near = omega arith }
@@ -17,12 +17,12 @@ read_block-answer-requires c = record { fair = search rules; whole = simp (lengt
 pub returns-in_default : goal.returns-in_default
 returns-in_default c =
     let image = c.args.image.now in
-    refused _ image c.loop-b.b c.loop-b-test.true c.read_block-answer.ensures c.enum_told-in_default-1.given.1 ∙ c.loop-b.invariant.3
+    refused _ image c.loop-b.b c.loop-b-test.true c.read_block-answer.ensures c.in_default.is ∙ c.loop-b.invariant.3
 
 pub loop-b-preserved : goal.loop-b-preserved
 loop-b-preserved c =
     let image = c.args.image.now in
-    let next = passed _ image c.loop-b.b c.loop-b-test.true c.read_block-answer.ensures c.enum_told-1.given.1 in
+    let next = passed _ image c.loop-b.b c.loop-b-test.true c.read_block-answer.ensures c.in-Accepted.is in
     (omega arith, omega arith, omega arith, next ∙ c.loop-b.invariant.3)
 
 pub returns : goal.returns
