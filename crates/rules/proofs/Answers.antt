@@ -9,7 +9,7 @@ use lib.Dec.{eqb}
 use lib.ListN.{length, get_or}
 use Rattle.meaning.specs.declared.Reading.{Reading}
 use Rattle.meaning.specs.declared.Reading.TheVariants.{Accepted, Refused}
-use Rattle.meaning.specs.Order.{need, and_then, earliest, orderly}
+use Rattle.meaning.specs.Order.{need, and_then, earliest, in_order}
 use Rattle.meaning.specs.Block.{rule_form, image_tests, record_of}
 use Rattle.meaning.specs.Rules.{rule_at, rules_of, read_rule, refers_well, table_tests, read_rules}
 use Rattle.rules.specs.declared.decode.Decoded.{Decoded}
@@ -83,12 +83,12 @@ abbrev well_in : List ℕ → ℕ → Reading
 well_in image k = need (refers_well (rules_of image) k) 26 k
 
 -- the records, then the references
-in_turn : (image : List ℕ) → orderly (table_tests image (rules_of image))
+in_turn : (image : List ℕ) → in_order (table_tests image (rules_of image))
     ≡ and_then (earliest (read_rule image (rules_of image)) 0 (length (rules_of image))) (earliest (well_in image) 0 (length (rules_of image)))
-unfolding orderly table_tests
+unfolding in_order table_tests
 in_turn image = rw (ends (earliest (well_in image) 0 (length (rules_of image))))
 
-module _ (image : List ℕ) {b : Reading} (eb : b ≡ orderly (image_tests rule_form image)) where
+module _ (image : List ℕ) {b : Reading} (eb : b ≡ in_order (image_tests rule_form image)) where
   pub bad-blocks : {x y : ℕ} → b ≡ Refused x y → RulesPromise image b
   unfolding read_rules
   bad-blocks e = rw (← eb, e)
