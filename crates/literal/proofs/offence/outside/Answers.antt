@@ -5,15 +5,7 @@ use native.Mathlib.Omega.{arith}
 use mir.Syntax.{w32}
 use mir.Facts.{to_z-of_z, to_z_pos}
 use Rattle.numbers.proofs.Callers.{heard_range}
-use borrow.Author.Rules.{rules}
-use Rattle.literal.proofs.offence.outside.Statement.{statement}
-use Rattle.literal.proofs.offence.outside.Tie as tie
+use Rattle.literal.proofs.offence.outside.Goals as goal
 
-cast-z : tie.Need-overflow-cast-z
-cast-z c = search rules
-
-returns : tie.Need-returns
+pub returns : goal.returns
 returns c = ap not (heard_range refl (to_z_pos w32 (omega arith)) (to_z-of_z c.ranges.low) (to_z-of_z c.ranges.high))
-
-pub outside-spec : {M : Type 1} → statement M
-outside-spec = tie.close (tie.spec cast-z returns)
