@@ -1,14 +1,12 @@
 -- `document::records::decode` meets its contract. Assumes nothing.
 use mathlib.Core.Path.{◌≡◌}
 use mathlib.Core.Bool.{Bool, true, false, ◌||◌}
-use borrow.Author.Rules.{rules}
 use borrow.Author.Tests.{eq-eqb, ne_eqb}
 use Rattle.meaning.specs.declared.Node.{Node}
 use Rattle.meaning.specs.Nodes.{item_fields, version_fields, node_fields}
 use Rattle.document.specs.declared.records.Decoded.TheVariants as D
 use Rattle.document.specs.Decoding.{decoded}
-use Rattle.document.proofs.records.decode.Statement.{statement}
-use Rattle.document.proofs.records.decode.Tie as tie
+use Rattle.document.proofs.records.decode.Goals as goal
 
 -- the three ways out
 module _ (n : Node) where
@@ -29,24 +27,13 @@ module _ (n : Node) where
     unfolding decoded
     failed-5 t = rw (eq-eqb n.spare 0 z, fits, t)
 
-returns : tie.Need-returns
-returns c = failed-4 _ c.if1.true
+pub returns-then-n-ne0 : goal.returns-then-n-ne0
+returns-then-n-ne0 c = failed-4 _ c.if-n-ne0.true
 
-item-fields-requires : tie.Need-item-fields-requires
-item-fields-requires c κs = search rules
+pub returns-then-item_fields-version_fields : goal.returns-then-item_fields-version_fields
+returns-then-item_fields-version_fields c =
+    passed _ c.if-n-ne0.false _ _ c.item_fields.ensures c.version_fields.ensures c.if-item_fields-version_fields.true
 
-version-fields-requires : tie.Need-version-fields-requires
-version-fields-requires c κs = search rules
-
-returns-2 : tie.Need-returns-2
-returns-2 c =
-    let item = c.before.before in
-    passed _ item.before.if1.false _ _ item.item-fields.ensures c.before.version-fields.ensures c.if2.true
-
-returns-3 : tie.Need-returns-3
-returns-3 c =
-    let item = c.before.before in
-    failed-5 _ item.before.if1.false _ _ item.item-fields.ensures c.before.version-fields.ensures c.if2.false
-
-pub decode-spec : {M : Type 1} → statement M
-decode-spec = tie.close (tie.spec returns item-fields-requires version-fields-requires returns-2 returns-3)
+pub returns : goal.returns
+returns c =
+    failed-5 _ c.if-n-ne0.false _ _ c.item_fields.ensures c.version_fields.ensures c.if-item_fields-version_fields.false
