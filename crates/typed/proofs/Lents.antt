@@ -18,7 +18,7 @@ use Rattle.typed.specs.declared.scan.Scan.{Scan}
 use Rattle.typed.specs.declared.scan.Scan.TheVariants as N
 use Rattle.typed.specs.declared.Line.{Line}
 use Rattle.typed.specs.declared.Line.TheVariants as L
-use Rattle.typed.specs.declared.Typed.TheVariants.{Records, Bad}
+use Rattle.typed.specs.declared.Typed.TheVariants.{Records}
 use Rattle.typed.specs.Numeral.{top, number_at}
 use Rattle.typed.specs.Listing.{line_at, Lines, records, bad, before, on_line, lines_at, told, on_count, text_of}
 use Rattle.typed.specs.Entered.{entered, Entered}
