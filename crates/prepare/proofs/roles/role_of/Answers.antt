@@ -64,7 +64,7 @@ returns-then-wanted c =
     role_wanted _ _ _ _ _ _ d k _ c.index-item.ensures _ c.left_before-before.ensures.0 c.left_before-before.ensures.1 doc _ t below _
     (left_down _ _ _ _ _ _ d k _ c.index-item.ensures _ c.left_before-before.ensures.0 c.left_before-before.ensures.1 doc _ t _ p refl below _ c.left_after-here.ensures)
     _ c.owner_of-owner.ensures _ c.index.ensures c.if-kind-index.false
-    _ (c.wanted.ensures doc _ (sym (v.vkind.at _)) (sym (given w32 c.wanted-arg-1.given ∙ v.value.at _))) c.if-wanted.true
+    _ (c.wanted.ensures doc _ (sym (v.vkind.at _)) (sym (given w32 (omega arith) ∙ v.value.at _))) c.if-wanted.true
 
 pub returns : goal.returns
 returns c =
@@ -74,4 +74,4 @@ returns c =
     role_unwanted _ _ _ _ _ _ d k _ c.index-item.ensures _ c.left_before-before.ensures.0 c.left_before-before.ensures.1 doc _ t below _
     (left_down _ _ _ _ _ _ d k _ c.index-item.ensures _ c.left_before-before.ensures.0 c.left_before-before.ensures.1 doc _ t _ p refl below _ c.left_after-here.ensures)
     _ c.owner_of-owner.ensures _ c.index.ensures c.if-kind-index.false
-    _ (c.wanted.ensures doc _ (sym (v.vkind.at _)) (sym (given w32 c.wanted-arg-1.given ∙ v.value.at _))) c.if-wanted.false
+    _ (c.wanted.ensures doc _ (sym (v.vkind.at _)) (sym (given w32 (omega arith) ∙ v.value.at _))) c.if-wanted.false

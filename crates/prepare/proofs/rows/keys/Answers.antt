@@ -1,7 +1,8 @@
 -- `prepare::rows::keys` meets its contract: below f each record has its key.
 use mathlib.Core.Path.{refl, sym, ◌∙◌}
 use native.Mathlib.Omega.{arith}
-use lib.ListN.{length-set}
+use lib.ListN.{get_or, length-set}
+use lib.IntN.{pos}
 use mir.Syntax.{w32}
 use Rattle.numbers.proofs.Signs.{given}
 use Rattle.prepare.proofs.Filling.{filled_none, filled-store}
@@ -14,7 +15,7 @@ loop-f-init c = (omega arith, refl, λ doc a b m h. filled_none _ _)
 pub loop-f-preserved : goal.loop-f-preserved
 loop-f-preserved c =
     let s = c.loop-f in
-    let value = given w32 c.wanted-arg-1.given in (
+    let value = given w32 {z = get_or c.args.value.now s.f (pos 0)} (omega arith) in (
       omega arith,
       simp length-set s.invariant.1,
       λ doc a b m h.

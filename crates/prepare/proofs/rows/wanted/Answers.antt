@@ -1,6 +1,7 @@
 -- `prepare::rows::wanted` meets its contract, by the window and the kind of the rule.
 use mathlib.Core.Path.{◌∙◌, ap}
 use mathlib.Core.Bool.{not}
+use native.Mathlib.Omega.{arith}
 use mir.Syntax.{w32}
 use mir.Facts.{to_z-of_z}
 use Rattle.numbers.proofs.Callers.{heard_range}
@@ -19,8 +20,7 @@ returns-then-rule-eq4 c = λ doc f w q. wants-any doc _ f _ w c.if-rule.false c.
 
 pub returns : goal.returns
 returns c =
-    let told = c.struct_told-2-1.given.1.1.1.1.1.1.1 in
-    let low = given w32 {z = c.args.rule.low} told.0.1 in
-    let high = given w32 {z = c.args.rule.high} told.1.0.1 in
+    let low = given w32 {z = c.args.rule.low} (omega arith) in
+    let high = given w32 {z = c.args.rule.high} (omega arith) in
     let fits = heard_range c.in_range-fits.ensures (to_z-of_z c.ranges.value) low high in
     λ doc f w q. wants-wrong doc _ f _ w c.if-rule.false c.if-rule-eq4.false _ _ fits q

@@ -1,7 +1,10 @@
 -- `steps::sweep::ask` meets its contract: below f each record has the answer of its search.
 use mathlib.Core.Path.{refl}
 use native.Mathlib.Omega.{arith}
-use lib.ListN.{length-set}
+use Prim.Native.Nat.{◌<◌}
+use lib.IntN.{pos}
+use lib.Signed.{mag}
+use lib.ListN.{get_or, length-set}
 use mir.Syntax.{w32}
 use mir.Facts.{to_z-of_z}
 use Rattle.numbers.proofs.Signs.{given}
@@ -23,7 +26,7 @@ bounds-out-f c = let p = c.requires in omega (arith, p.0)
 pub loop-f-preserved : goal.loop-f-preserved
 loop-f-preserved c =
     let p = c.requires in
-    let g = c.bound_of-arg-1.given in (
+    let g : mag (get_or c.args.value.now c.loop-f.f (pos 0)) < 2147483648 = omega arith in (
       omega arith,
       simp length-set c.loop-f.invariant.1,
       filled-store _ c.loop-f.invariant.2 (omega (arith, p.0)) _

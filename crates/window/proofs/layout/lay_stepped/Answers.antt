@@ -18,8 +18,7 @@ mark_reaching-marks-requires c =
 
 pub returns : goal.returns
 returns c =
-    let bounds = c.struct_told-2-1.given.1.1.1.1.1.1.1 in
     let z = c.args.rule in
     λ doc t v w g o ok flat k.
     spread-stepped _ t.kind.size k (c.way_along-way.ensures _ c.mark_reaching-marks.ensures)
-    (c.reaches_swept-reach.ensures doc _ (closing v w (c.keys_of-key.ensures doc t v) g c.requires.1 o) ok (known_only doc _ flat (omega arith)) (given w32 {z = z.low} bounds.0.1) (given w32 {z = z.high} bounds.1.0.1))
+    (c.reaches_swept-reach.ensures doc _ (closing v w (c.keys_of-key.ensures doc t v) g c.requires.1 o) ok (known_only doc _ flat (omega arith)) (given w32 {z = z.low} (omega arith)) (given w32 {z = z.high} (omega arith)))
