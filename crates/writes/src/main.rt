@@ -49,10 +49,8 @@ fn front_quads(s: &[u32], n: usize) -> &[u32] {
 fn decode_pairs(bytes: &[u8], column: &mut [u16])
     requires { 2 * length column.old ≤ length bytes.now }
 {
-    let mut i = 0;
-    while i < column.len() {
+    for i in 0..column.len() {
         column[i] = numbers::two_at(bytes, 2 * i);
-        i += 1;
     }
 }
 
@@ -60,10 +58,8 @@ fn decode_pairs(bytes: &[u8], column: &mut [u16])
 fn decode_signed(bytes: &[u8], column: &mut [i32])
     requires { 4 * length column.old ≤ length bytes.now }
 {
-    let mut i = 0;
-    while i < column.len() {
+    for i in 0..column.len() {
         column[i] = numbers::signed_at(bytes, 4 * i);
-        i += 1;
     }
 }
 
@@ -71,10 +67,8 @@ fn decode_signed(bytes: &[u8], column: &mut [i32])
 fn decode_quads(bytes: &[u8], column: &mut [u32])
     requires { 4 * length column.old ≤ length bytes.now }
 {
-    let mut i = 0;
-    while i < column.len() {
+    for i in 0..column.len() {
         column[i] = numbers::four_at(bytes, 4 * i);
-        i += 1;
     }
 }
 
@@ -187,11 +181,9 @@ fn put_end(text: &mut [u8], at: usize, i: usize, n: usize) -> usize {
 // An image in lines of digits.
 fn put_image(text: &mut [u8], at: usize, image: &[u8]) -> usize {
     let mut to = at;
-    let mut i = 0;
-    while i < image.len() {
-        to = put_byte(text, to, image[i]);
-        i += 1;
-        to = put_end(text, to, i, image.len());
+    for (i, byte) in image.iter().enumerate() {
+        to = put_byte(text, to, *byte);
+        to = put_end(text, to, i + 1, image.len());
     }
     to
 }
