@@ -1,8 +1,5 @@
 -- What was written of a text's records is the image of those that it lists.
-use mathlib.Core.Path.{◌≡◌, sym, ◌∙◌}
-use mathlib.Core.List.{List}
-use Prim.Native.Nat.{ℕ}
-use lib.ListN.{take}
+use Rattle.std.proofs.Common.{◌≡◌, ℕ, List, take, sym, ◌∙◌}
 use Rattle.meaning.specs.declared.Output.{Output}
 use Rattle.meaning.specs.declared.Output.TheVariants.{Written}
 use Rattle.meaning.specs.Nodes.{image_of}

@@ -10,8 +10,9 @@ ghost use Rattle.typed.specs.Entered.{Reads};
 ghost use Rattle.bankwrite.specs.Written.{Writes};
 
 use files::Got;
-use libc::STDOUT_FILENO;
 use meaning::Output;
+use std::io;
+use std::rt::Files;
 use typed::{Typed, TypedRecords};
 
 // The longest good text: a count of four digits and a line feed; then for each record three digits each of its kind and its value kind, five
@@ -26,41 +27,41 @@ const IMAGE_ROOM: usize = 512 * block::NODES.most;
 const LINE: usize = 80;
 
 // Prints a line that was put into a buffer up to `end`.
-fn print(line: &[u8], end: usize) {
-    io::write_all(STDOUT_FILENO, spelling::front(line, end));
+fn print(rt: &impl Print, line: &[u8], end: usize) -> io::Result<()> {
+    rt.write_all(spelling::front(line, end))
 }
 
 // Prints a word, a number and the end of the line.
-fn print_number(words: &[u8], x: usize) {
+fn print_number(rt: &impl Print, words: &[u8], x: usize) -> io::Result<()> {
     let mut line = [0u8; LINE];
     let word = spelling::put(&mut line, 0, words);
     let number = spelling::put_next(&mut line, word, x);
     let end = spelling::put(&mut line, number, b"\n");
-    print(&line, end);
+    print(rt, &line, end)
 }
 
 // Prints the number and the place of a refusal.
-fn print_refusal(number: usize, place: usize) {
+fn print_refusal(rt: &impl Print, number: usize, place: usize) -> io::Result<()> {
     let mut line = [0u8; LINE];
     let end = spelling::lines::put_refusal(&mut line, number, place);
-    print(&line, end);
+    print(rt, &line, end)
 }
 
 // Prints the line of a file that cannot be read.
-fn print_unreadable(name: &[u8]) {
+fn print_unreadable(rt: &impl Print, name: &str) -> io::Result<()> {
     let mut line = [0u8; LINE];
-    let end = spelling::lines::unreadable(&mut line, name);
-    print(&line, end);
+    let end = spelling::lines::unreadable(&mut line, name.as_bytes());
+    print(rt, &line, end)
 }
 
 // The image of the records that a text lists goes to its file, all at once: nothing else may be given to it.
-fn keep(text: &[u8], image: &[u8])
+fn keep(rt: &(impl Files + Print), text: &[u8], image: &[u8]) -> io::Result<()>
     requires { image.now ≡ image_of (text_of text.now).listed }
 {
-    if files::replace(b"nodes.blk", b"nodes.blk.part", image) {
-        print_number(b"written", image.len());
+    if files::replace(rt, "nodes.blk", "nodes.blk.part", image) {
+        print_number(rt, b"written", image.len())
     } else {
-        io::write_all(STDOUT_FILENO, b"unwritable nodes.blk\n");
+        rt.write_all(b"unwritable nodes.blk\n")
     }
 }
 
@@ -85,7 +86,12 @@ fn write_nodes<'a>(
 }
 
 // The records that a text lists are written, or refused.
-fn write_records(text: &[u8], records: TypedRecords, count: usize)
+fn write_records(
+    rt: &(impl Files + Print),
+    text: &[u8],
+    records: TypedRecords,
+    count: usize,
+) -> io::Result<()>
     requires { Reads text.now records × (records.answer ≡ Records count) }
 {
     let mut image = [0u8; IMAGE_ROOM];
@@ -102,26 +108,25 @@ fn write_records(text: &[u8], records: TypedRecords, count: usize)
         &mut image,
     );
     match output {
-        Output::Written(size) => keep(text, spelling::front(&image, size)),
-        Output::Refused(number, place) => print_refusal(number, place),
+        Output::Written(size) => keep(rt, text, spelling::front(&image, size)),
+        Output::Refused(number, place) => print_refusal(rt, number, place),
     }
 }
 
 // A text of records, whatever its bytes.
-fn write_text(text: &[u8]) {
+fn write_text(rt: &(impl Files + Print), text: &[u8]) -> io::Result<()> {
     let records = typed::read_text(text);
     let answer = records.answer;
     match answer {
-        Typed::Records(count) => write_records(text, records, count),
-        Typed::Bad(line) => print_number(b"malformed records.txt line", line),
+        Typed::Records(count) => write_records(rt, text, records, count),
+        Typed::Bad(line) => print_number(rt, b"malformed records.txt line", line),
     }
 }
 
-fn main() {
+fn main(rt: HostRuntime) -> io::Result<()> {
     let mut text = [0u8; TEXT_ROOM];
-    let Got::Bytes(n) = files::load(b"records.txt", &mut text) else {
-        print_unreadable(b"records.txt");
-        return;
+    let Got::Bytes(n) = files::load(&rt, "records.txt", &mut text) else {
+        return print_unreadable(&rt, "records.txt");
     };
-    write_text(spelling::front(&text, n));
+    write_text(&rt, spelling::front(&text, n))
 }

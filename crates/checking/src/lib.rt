@@ -6,7 +6,8 @@ ghost use Rattle.std.specs.Prelude.{◌≡◌};
 ghost use Rattle.report.specs.Text.{report_of};
 
 use files::Got;
-use libc::STDOUT_FILENO;
+use std::io;
+use std::rt::Files;
 
 // The largest good files, and one byte more, so that a longer file is refused by its length.
 const NODES_ROOM: usize = 512 * block::NODES.most + 1;
@@ -14,41 +15,40 @@ const NODES_ROOM: usize = 512 * block::NODES.most + 1;
 const RULES_ROOM: usize = 512 * block::RULES.most + 1;
 
 // Writes the report on two images: nothing else may be given to it.
-fn write_report(nodes: &[u8], rules: &[u8], text: &[u8])
+fn write_report(rt: &impl Print, nodes: &[u8], rules: &[u8], text: &[u8]) -> io::Result<()>
     requires { text.now ≡ report_of nodes.now rules.now }
 {
-    io::write_all(STDOUT_FILENO, text);
+    rt.write_all(text)
 }
 
 // Prints the report on two images, their sequenced rules judged by the plain engine if so asked.
-fn print_report(nodes: &[u8], rules: &[u8], plainly: bool) {
+fn print_report(rt: &impl Print, nodes: &[u8], rules: &[u8], plainly: bool) -> io::Result<()> {
     let mut text = [0u8; report::ROOM];
     let end = report::report_by(&mut text, nodes, rules, plainly);
-    write_report(nodes, rules, spelling::front(&text, end));
+    write_report(rt, nodes, rules, spelling::front(&text, end))
 }
 
 // Prints the line of a file that cannot be read.
-fn print_unreadable(name: &[u8]) {
+fn print_unreadable(rt: &impl Print, name: &str) -> io::Result<()> {
     let mut text = [0u8; report::ROOM];
-    let end = spelling::lines::unreadable(&mut text, name);
-    io::write_all(STDOUT_FILENO, spelling::front(&text, end));
+    let end = spelling::lines::unreadable(&mut text, name.as_bytes());
+    rt.write_all(spelling::front(&text, end))
 }
 
-// The whole run of a checker. Cost: that of the report.
-pub fn check(plainly: bool) {
+// The whole run of a checker; an error is that of the standard output. Cost: that of the report.
+pub fn check(rt: &(impl Files + Print), plainly: bool) -> io::Result<()> {
     let mut nodes = [0u8; NODES_ROOM];
-    let Got::Bytes(n) = files::load(b"nodes.blk", &mut nodes) else {
-        print_unreadable(b"nodes.blk");
-        return;
+    let Got::Bytes(n) = files::load(rt, "nodes.blk", &mut nodes) else {
+        return print_unreadable(rt, "nodes.blk");
     };
     let mut rules = [0u8; RULES_ROOM];
-    let Got::Bytes(m) = files::load(b"rules.blk", &mut rules) else {
-        print_unreadable(b"rules.blk");
-        return;
+    let Got::Bytes(m) = files::load(rt, "rules.blk", &mut rules) else {
+        return print_unreadable(rt, "rules.blk");
     };
     print_report(
+        rt,
         spelling::front(&nodes, n),
         spelling::front(&rules, m),
         plainly,
-    );
+    )
 }

@@ -3,6 +3,6 @@ use Rattle.std.specs.Prelude.{ℕ, ◌≤◌}
 use Rattle.files.specs.declared.Got.{Got}
 use Rattle.files.specs.declared.Got.TheVariants.{Bytes, Unreadable}
 
-unfoldable pub Within : Got → ℕ → Type 0
+abbrev pub Within : Got → ℕ → Type 0
 Within (Bytes n) room = n ≤ room
 Within Unreadable room = Unit {0}

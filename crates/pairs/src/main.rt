@@ -8,8 +8,9 @@ ghost use Rattle.std.specs.Prelude.{◌≤◌};
 
 use columns::{Columns, Loaded};
 use judging::Judged;
-use libc::STDOUT_FILENO;
 use meaning::{Listed, Output, Verdict};
+use std::io::Read;
+use std::{fs, io};
 
 // The largest good images, and one byte more, so that a longer one is refused by its length.
 const NODES_ROOM: usize = 512 * block::NODES.most + 1;
@@ -27,16 +28,16 @@ const LINE: usize = 8 * LIST_ROOM;
 const MANY: usize = 4294967296;
 
 // Ends the line before `at` and writes it.
-fn write_line(line: &mut [u8], at: usize) {
+fn write_line(rt: &impl Print, line: &mut [u8], at: usize) -> io::Result<()> {
     let end = spelling::put(line, at, b"\n");
-    io::write_all(STDOUT_FILENO, spelling::front(line, end));
+    rt.write_all(spelling::front(line, end))
 }
 
 // The report on a pair.
-fn write_report(nodes: &[u8], rules: &[u8]) {
+fn write_report(rt: &impl Print, nodes: &[u8], rules: &[u8]) -> io::Result<()> {
     let mut text = [0u8; report::ROOM];
     let end = report::report(&mut text, nodes, rules);
-    io::write_all(STDOUT_FILENO, spelling::front(&text, end));
+    rt.write_all(spelling::front(&text, end))
 }
 
 // The number in two bytes of a header.
@@ -61,13 +62,11 @@ fn put_entry(line: &mut [u8], at: usize, x: u16) -> usize {
 // The first n numbers of a list, or all.
 fn put_entries(line: &mut [u8], at: usize, list: &[u16], n: usize) -> usize {
     let mut to = at;
-    let mut i = 0;
-    while i < list.len() {
+    for (i, entry) in list.iter().enumerate() {
         if n <= i {
             return to;
         }
-        to = put_entry(line, to, list[i]);
-        i += 1;
+        to = put_entry(line, to, *entry);
     }
     to
 }
@@ -80,7 +79,13 @@ fn put_refused(line: &mut [u8], at: usize, number: usize, place: usize) -> usize
 }
 
 // The line of a list: the word, what was asked, and what a list call answered and stored.
-fn write_list(word: &[u8], asked: usize, listed: Listed, list: &[u16]) {
+fn write_list(
+    rt: &impl Print,
+    word: &[u8],
+    asked: usize,
+    listed: Listed,
+    list: &[u16],
+) -> io::Result<()> {
     let mut line = [0u8; LINE];
     let named = spelling::put(&mut line, 0, word);
     let at = spelling::put_next(&mut line, named, asked);
@@ -88,11 +93,11 @@ fn write_list(word: &[u8], asked: usize, listed: Listed, list: &[u16]) {
         Listed::Stored(n) => {
             let counted = spelling::put_next(&mut line, at, n);
             let end = put_entries(&mut line, counted, list, n);
-            write_line(&mut line, end);
+            write_line(rt, &mut line, end)
         }
         Listed::Refused(number, place) => {
             let end = put_refused(&mut line, at, number, place);
-            write_line(&mut line, end);
+            write_line(rt, &mut line, end)
         }
     }
 }
@@ -106,34 +111,58 @@ fn slice_by(nodes: &[u8], day: usize, list: &mut [u16], plainly: bool) -> Listed
 }
 
 // The slice of a day, in a lent list.
-fn write_slice(nodes: &[u8], day: usize, list: &mut [u16], plainly: bool) {
+fn write_slice(
+    rt: &impl Print,
+    nodes: &[u8],
+    day: usize,
+    list: &mut [u16],
+    plainly: bool,
+) -> io::Result<()> {
     let listed = slice_by(nodes, day, list, plainly);
-    write_list(b"slice", day, listed, list);
+    write_list(rt, b"slice", day, listed, list)
 }
 
 // The same in a list of so many entries, or of as many as any list needs.
-fn write_slice_in(nodes: &[u8], day: usize, room: usize, plainly: bool) {
+fn write_slice_in(
+    rt: &impl Print,
+    nodes: &[u8],
+    day: usize,
+    room: usize,
+    plainly: bool,
+) -> io::Result<()> {
     let mut list = [0u16; LIST_ROOM];
     if room < LIST_ROOM {
-        write_slice(nodes, day, &mut list[0..room], plainly);
+        write_slice(rt, nodes, day, &mut list[0..room], plainly)
     } else {
-        write_slice(nodes, day, &mut list, plainly);
+        write_slice(rt, nodes, day, &mut list, plainly)
     }
 }
 
 // The change days of a rule, in a lent list.
-fn write_changes(nodes: &[u8], rules: &[u8], rule: usize, list: &mut [u16]) {
+fn write_changes(
+    rt: &impl Print,
+    nodes: &[u8],
+    rules: &[u8],
+    rule: usize,
+    list: &mut [u16],
+) -> io::Result<()> {
     let listed = bank::change_days(nodes, rules, rule, list);
-    write_list(b"changes", rule, listed, list);
+    write_list(rt, b"changes", rule, listed, list)
 }
 
 // The same in a list of so many entries, or of as many as any list needs.
-fn write_changes_in(nodes: &[u8], rules: &[u8], rule: usize, room: usize) {
+fn write_changes_in(
+    rt: &impl Print,
+    nodes: &[u8],
+    rules: &[u8],
+    rule: usize,
+    room: usize,
+) -> io::Result<()> {
     let mut list = [0u16; LIST_ROOM];
     if room < LIST_ROOM {
-        write_changes(nodes, rules, rule, &mut list[0..room]);
+        write_changes(rt, nodes, rules, rule, &mut list[0..room])
     } else {
-        write_changes(nodes, rules, rule, &mut list);
+        write_changes(rt, nodes, rules, rule, &mut list)
     }
 }
 
@@ -146,13 +175,19 @@ fn verdict_by(nodes: &[u8], rules: &[u8], rule: usize, plainly: bool) -> Verdict
 }
 
 // The verdict on a rule by its number.
-fn write_verdict(nodes: &[u8], rules: &[u8], rule: usize, plainly: bool) {
+fn write_verdict(
+    rt: &impl Print,
+    nodes: &[u8],
+    rules: &[u8],
+    rule: usize,
+    plainly: bool,
+) -> io::Result<()> {
     let mut line = [0u8; LINE];
     let named = spelling::put(&mut line, 0, b"verdict");
     let at = spelling::put_next(&mut line, named, rule);
     let verdict = verdict_by(nodes, rules, rule, plainly);
     let end = spelling::lines::put_verdict(&mut line, at, verdict);
-    write_line(&mut line, end);
+    write_line(rt, &mut line, end)
 }
 
 // Whether a verdict took more looks than it needs: one place where the rule fails, none where it holds.
@@ -169,28 +204,27 @@ fn alarmed(found: Judged) -> bool {
 const RULES: usize = 10 * block::RULES.most;
 
 // The line of a false alarm: the rule's number, and how many places were looked into.
-fn write_alarm(rule: usize, looked: usize) {
+fn write_alarm(rt: &impl Print, rule: usize, looked: usize) -> io::Result<()> {
     let mut line = [0u8; LINE];
     let named = spelling::put(&mut line, 0, b"alarm");
     let at = spelling::put_next(&mut line, named, rule);
     let end = spelling::put_next(&mut line, at, looked);
-    write_line(&mut line, end);
+    write_line(rt, &mut line, end)
 }
 
 // The lines of all rules on which a false alarm was followed.
-fn write_alarms(nodes: &[u8], rules: &[u8]) {
-    let mut k = 0;
-    while k < RULES {
+fn write_alarms(rt: &impl Print, nodes: &[u8], rules: &[u8]) -> io::Result<()> {
+    for k in 0..RULES {
         let found = bank::looking::judge(nodes, rules, k);
         let verdict = found.verdict;
         if let Verdict::Refused(_number, _place) = verdict {
-            return;
+            return Ok(());
         }
         if alarmed(found) {
-            write_alarm(k, found.looked);
+            write_alarm(rt, k, found.looked)?;
         }
-        k += 1;
     }
+    Ok(())
 }
 
 // Whether two stretches of bytes are the same.
@@ -198,12 +232,10 @@ fn same(a: &[u8], b: &[u8]) -> bool {
     if a.len() != b.len() {
         return false;
     }
-    let mut i = 0;
-    while i < a.len() {
+    for i in 0..a.len() {
         if a[i] != b[i] {
             return false;
         }
-        i += 1;
     }
     true
 }
@@ -245,135 +277,162 @@ fn written_again(columns: Columns, image: &mut [u8]) -> Output {
 }
 
 // Whether a node image came back, in a lent image of its length.
-fn write_again(nodes: &[u8], image: &mut [u8]) {
+fn write_again(rt: &impl Print, nodes: &[u8], image: &mut [u8]) -> io::Result<()> {
     let mut line = [0u8; LINE];
     let at = spelling::put(&mut line, 0, b"again");
     let output = written_again(opening::open_nodes(nodes), image);
     match output {
         Output::Refused(number, place) => {
             let end = put_refused(&mut line, at, number, place);
-            write_line(&mut line, end);
+            write_line(rt, &mut line, end)
         }
         Output::Written(size) => {
             if (size == nodes.len()) & same(nodes, image) {
                 let end = spelling::put(&mut line, at, b" same");
-                write_line(&mut line, end);
+                write_line(rt, &mut line, end)
             } else {
                 let end = spelling::put(&mut line, at, b" differs");
-                write_line(&mut line, end);
+                write_line(rt, &mut line, end)
             }
         }
     }
 }
 
 // The same in an image that no writer has touched.
-fn write_again_in(nodes: &[u8]) {
+fn write_again_in(rt: &impl Print, nodes: &[u8]) -> io::Result<()> {
     let mut image = [165u8; NODES_ROOM];
     let room = nodes.len();
     if room < NODES_ROOM {
-        write_again(nodes, &mut image[0..room]);
+        write_again(rt, nodes, &mut image[0..room])
     } else {
-        write_again(nodes, &mut image);
+        write_again(rt, nodes, &mut image)
     }
 }
 
 // The line that begins a pair: a word and the pair's number.
-fn write_number(word: &[u8], number: usize) {
+fn write_number(rt: &impl Print, word: &[u8], number: usize) -> io::Result<()> {
     let mut line = [0u8; LINE];
     let named = spelling::put(&mut line, 0, word);
     let end = spelling::put_next(&mut line, named, number);
-    write_line(&mut line, end);
+    write_line(rt, &mut line, end)
 }
 
 // The slices of the two days of a header.
-fn write_slices(head: &[u8; 20], nodes: &[u8], plainly: bool) {
+fn write_slices(rt: &impl Print, head: &[u8; 20], nodes: &[u8], plainly: bool) -> io::Result<()> {
     let room = short(head, 16);
-    write_slice_in(nodes, short(head, 8), room, plainly);
-    write_slice_in(nodes, short(head, 10), room, plainly);
+    write_slice_in(rt, nodes, short(head, 8), room, plainly)?;
+    write_slice_in(rt, nodes, short(head, 10), room, plainly)
 }
 
 // The verdicts on the two rules of a header.
-fn write_verdicts(head: &[u8; 20], nodes: &[u8], rules: &[u8], plainly: bool) {
-    write_verdict(nodes, rules, short(head, 12), plainly);
-    write_verdict(nodes, rules, short(head, 14), plainly);
+fn write_verdicts(
+    rt: &impl Print,
+    head: &[u8; 20],
+    nodes: &[u8],
+    rules: &[u8],
+    plainly: bool,
+) -> io::Result<()> {
+    write_verdict(rt, nodes, rules, short(head, 12), plainly)?;
+    write_verdict(rt, nodes, rules, short(head, 14), plainly)
 }
 
 // All lines of one pair, by the quick engine.
-fn write_pair(number: usize, head: &[u8; 20], nodes: &[u8], rules: &[u8]) {
-    write_number(b"pair", number);
-    write_report(nodes, rules);
-    write_slices(head, nodes, false);
+fn write_pair(
+    rt: &impl Print,
+    number: usize,
+    head: &[u8; 20],
+    nodes: &[u8],
+    rules: &[u8],
+) -> io::Result<()> {
+    write_number(rt, b"pair", number)?;
+    write_report(rt, nodes, rules)?;
+    write_slices(rt, head, nodes, false)?;
     let room = short(head, 16);
-    write_changes_in(nodes, rules, short(head, 12), room);
-    write_changes_in(nodes, rules, short(head, 14), room);
-    write_verdicts(head, nodes, rules, false);
-    write_again_in(nodes);
-    write_alarms(nodes, rules);
+    write_changes_in(rt, nodes, rules, short(head, 12), room)?;
+    write_changes_in(rt, nodes, rules, short(head, 14), room)?;
+    write_verdicts(rt, head, nodes, rules, false)?;
+    write_again_in(rt, nodes)?;
+    write_alarms(rt, nodes, rules)
 }
 
 // The lines of one pair by the plain engine.
-fn write_plain(number: usize, head: &[u8; 20], nodes: &[u8], rules: &[u8]) {
-    write_number(b"plain", number);
-    write_slices(head, nodes, true);
-    write_verdicts(head, nodes, rules, true);
+fn write_plain(
+    rt: &impl Print,
+    number: usize,
+    head: &[u8; 20],
+    nodes: &[u8],
+    rules: &[u8],
+) -> io::Result<()> {
+    write_number(rt, b"plain", number)?;
+    write_slices(rt, head, nodes, true)?;
+    write_verdicts(rt, head, nodes, rules, true)
 }
 
 // The lines of one pair by one of the engines.
-fn write_by(number: usize, head: &[u8; 20], nodes: &[u8], rules: &[u8], plainly: bool) {
+fn write_by(
+    rt: &impl Print,
+    number: usize,
+    head: &[u8; 20],
+    nodes: &[u8],
+    rules: &[u8],
+    plainly: bool,
+) -> io::Result<()> {
     if plainly {
-        write_plain(number, head, nodes, rules);
+        write_plain(rt, number, head, nodes, rules)
     } else {
-        write_pair(number, head, nodes, rules);
+        write_pair(rt, number, head, nodes, rules)
     }
 }
 
 // Whether there was one more pair in the file, of images no longer than they may be; its lines are written.
-fn one_pair(fd: i32, number: usize, plainly: bool) -> bool {
+fn one_pair(
+    rt: &impl Print,
+    pairs: &mut impl Read,
+    number: usize,
+    plainly: bool,
+) -> io::Result<bool> {
     let mut head = [0u8; 20];
-    if !files::filled(fd, &mut head) {
-        return false;
+    if !files::filled(pairs, &mut head) {
+        return Ok(false);
     }
     let n = long(&head, 0);
     let m = long(&head, 4);
     let mut nodes = [0u8; NODES_ROOM];
-    if !files::filled_front(fd, n, &mut nodes) {
-        return false;
+    if !files::filled_front(pairs, n, &mut nodes) {
+        return Ok(false);
     }
     let mut rules = [0u8; RULES_ROOM];
-    if !files::filled_front(fd, m, &mut rules) {
-        return false;
+    if !files::filled_front(pairs, m, &mut rules) {
+        return Ok(false);
     }
     write_by(
+        rt,
         number,
         &head,
         spelling::front(&nodes, n),
         spelling::front(&rules, m),
         plainly,
-    );
-    true
+    )?;
+    Ok(true)
 }
 
 // The lines of all pairs of a file.
-fn all_pairs(fd: i32, plainly: bool) {
-    let mut number: usize = 0;
-    while number < MANY {
-        if !one_pair(fd, number, plainly) {
-            return;
+fn all_pairs(rt: &impl Print, pairs: &mut impl Read, plainly: bool) -> io::Result<()> {
+    for number in 0..MANY {
+        if !one_pair(rt, pairs, number, plainly)? {
+            return Ok(());
         }
-        number += 1;
     }
+    Ok(())
 }
 
-fn main() {
-    let pairs = os::open_read(b"pairs.blk");
-    if pairs < 0 {
-        io::write_all(STDOUT_FILENO, b"unreadable pairs.blk\n");
-        return;
-    }
-    all_pairs(pairs, false);
-    let plain = os::open_read(b"plain.blk");
-    if plain < 0 {
-        return;
-    }
-    all_pairs(plain, true);
+fn main(rt: HostRuntime) -> io::Result<()> {
+    let Ok(mut pairs) = fs::open(&rt, "pairs.blk") else {
+        return rt.write_all(b"unreadable pairs.blk\n");
+    };
+    all_pairs(&rt, &mut pairs, false)?;
+    let Ok(mut plain) = fs::open(&rt, "plain.blk") else {
+        return Ok(());
+    };
+    all_pairs(&rt, &mut plain, true)
 }

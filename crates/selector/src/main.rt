@@ -4,7 +4,8 @@
 ghost use Rattle.selector.specs.Printed.{Printed};
 
 use files::Got;
-use libc::STDOUT_FILENO;
+use std::io;
+use std::rt::Files;
 
 // The longest text and the longest dictionary that are read, and one byte more, so that a longer file is told by its length.
 const TEXT_ROOM: usize = 65536 + 1;
@@ -16,31 +17,31 @@ const DICTIONARY_ROOM: usize = 4194304 + 1;
 const LINE: usize = 80;
 
 // Prints the line of a file that cannot be read.
-fn print_unreadable(name: &[u8]) {
+fn print_unreadable(rt: &impl Print, name: &str) -> io::Result<()> {
     let mut line = [0u8; LINE];
-    let end = spelling::lines::unreadable(&mut line, name);
-    io::write_all(STDOUT_FILENO, spelling::front(&line, end));
+    let end = spelling::lines::unreadable(&mut line, name.as_bytes());
+    rt.write_all(spelling::front(&line, end))
 }
 
 // Writes the line on a text and a dictionary: nothing else may be given to it.
-fn write_selector(text: &[u8], dictionary: &[u8], line: &[u8])
+fn write_selector(rt: &impl Print, text: &[u8], dictionary: &[u8], line: &[u8]) -> io::Result<()>
     requires { Printed text.now dictionary.now line.now }
 {
-    io::write_all(STDOUT_FILENO, line);
+    rt.write_all(line)
 }
 
 // Prints the line on a text and a dictionary.
-fn print_selector(text: &[u8], dictionary: &[u8]) {
+fn print_selector(rt: &impl Print, text: &[u8], dictionary: &[u8]) -> io::Result<()> {
     let selector = selectors::read_selector(text, dictionary);
     let answer = selector.answer;
     let mut line = [0u8; LINE];
     let end = selectors::line::put_selector(&mut line, answer, &selector.path);
-    write_selector(text, dictionary, spelling::front(&line, end));
+    write_selector(rt, text, dictionary, spelling::front(&line, end))
 }
 
 // The whole of the file of this name, or that it cannot be read or is longer than the buffer has room for.
-fn load_whole(name: &[u8], buf: &mut [u8]) -> Got {
-    let got = files::load(name, buf);
+fn load_whole(rt: &impl Files, name: &str, buf: &mut [u8]) -> Got {
+    let got = files::load(rt, name, buf);
     if let Got::Bytes(n) = got {
         if n < buf.len() {
             return Got::Bytes(n);
@@ -50,30 +51,33 @@ fn load_whole(name: &[u8], buf: &mut [u8]) -> Got {
 }
 
 // The file `dictionary`, whole.
-fn load_dictionary(buf: &mut [u8; DICTIONARY_ROOM]) -> Got {
-    load_whole(b"dictionary", buf)
+fn load_dictionary(rt: &impl Files, buf: &mut [u8; DICTIONARY_ROOM]) -> Got {
+    load_whole(rt, "dictionary", buf)
 }
 
 // Prints the line on a text and the first m bytes of a dictionary's buffer.
-fn print_front(text: &[u8], dictionary: &[u8; DICTIONARY_ROOM], m: usize) {
-    print_selector(text, spelling::front(dictionary, m));
+fn print_front(
+    rt: &impl Print,
+    text: &[u8],
+    dictionary: &[u8; DICTIONARY_ROOM],
+    m: usize,
+) -> io::Result<()> {
+    print_selector(rt, text, spelling::front(dictionary, m))
 }
 
 // Prints the line on a text and the file `dictionary`, or that it cannot be read.
-fn print_on(text: &[u8]) {
+fn print_on(rt: &(impl Files + Print), text: &[u8]) -> io::Result<()> {
     let mut dictionary = [0u8; DICTIONARY_ROOM];
-    let Got::Bytes(m) = load_dictionary(&mut dictionary) else {
-        print_unreadable(b"dictionary");
-        return;
+    let Got::Bytes(m) = load_dictionary(rt, &mut dictionary) else {
+        return print_unreadable(rt, "dictionary");
     };
-    print_front(text, &dictionary, m);
+    print_front(rt, text, &dictionary, m)
 }
 
-fn main() {
+fn main(rt: HostRuntime) -> io::Result<()> {
     let mut text = [0u8; TEXT_ROOM];
-    let Got::Bytes(n) = load_whole(b"text", &mut text) else {
-        print_unreadable(b"text");
-        return;
+    let Got::Bytes(n) = load_whole(&rt, "text", &mut text) else {
+        return print_unreadable(&rt, "text");
     };
-    print_on(spelling::front(&text, n));
+    print_on(&rt, spelling::front(&text, n))
 }

@@ -4,8 +4,9 @@
 
 ghost use Rattle.std.specs.Prelude.{◌*◌, ◌≤◌, length};
 
-use libc::STDOUT_FILENO;
 use meaning::Output;
+use std::io::Read;
+use std::{fs, io};
 
 // A column has at most as many entries as one block more than the largest good image has records.
 const MOST: usize = block::NODES.each * (block::NODES.most + 1);
@@ -48,10 +49,8 @@ fn front_quads(s: &[u32], n: usize) -> &[u32] {
 fn decode_pairs(bytes: &[u8], column: &mut [u16])
     requires { 2 * length column.old ≤ length bytes.now }
 {
-    let mut i = 0;
-    while i < column.len() {
+    for i in 0..column.len() {
         column[i] = numbers::two_at(bytes, 2 * i);
-        i += 1;
     }
 }
 
@@ -59,10 +58,8 @@ fn decode_pairs(bytes: &[u8], column: &mut [u16])
 fn decode_signed(bytes: &[u8], column: &mut [i32])
     requires { 4 * length column.old ≤ length bytes.now }
 {
-    let mut i = 0;
-    while i < column.len() {
+    for i in 0..column.len() {
         column[i] = numbers::signed_at(bytes, 4 * i);
-        i += 1;
     }
 }
 
@@ -70,15 +67,13 @@ fn decode_signed(bytes: &[u8], column: &mut [i32])
 fn decode_quads(bytes: &[u8], column: &mut [u32])
     requires { 4 * length column.old ≤ length bytes.now }
 {
-    let mut i = 0;
-    while i < column.len() {
+    for i in 0..column.len() {
         column[i] = numbers::four_at(bytes, 4 * i);
-        i += 1;
     }
 }
 
 // Whether the next n numbers of the file came into the column's front; not if there is no room for them.
-fn take_pairs(fd: i32, n: usize, column: &mut [u16]) -> bool {
+fn take_pairs(cases: &mut impl Read, n: usize, column: &mut [u16]) -> bool {
     let mut bytes = [0u8; 2 * MOST];
     if MOST < n {
         return false;
@@ -86,13 +81,13 @@ fn take_pairs(fd: i32, n: usize, column: &mut [u16]) -> bool {
     if column.len() < n {
         return false;
     }
-    let came = files::filled_front(fd, 2 * n, &mut bytes);
+    let came = files::filled_front(cases, 2 * n, &mut bytes);
     decode_pairs(&bytes, &mut column[0..n]);
     came
 }
 
 // The same of signed numbers.
-fn take_signed(fd: i32, n: usize, column: &mut [i32]) -> bool {
+fn take_signed(cases: &mut impl Read, n: usize, column: &mut [i32]) -> bool {
     let mut bytes = [0u8; 4 * MOST];
     if MOST < n {
         return false;
@@ -100,13 +95,13 @@ fn take_signed(fd: i32, n: usize, column: &mut [i32]) -> bool {
     if column.len() < n {
         return false;
     }
-    let came = files::filled_front(fd, 4 * n, &mut bytes);
+    let came = files::filled_front(cases, 4 * n, &mut bytes);
     decode_signed(&bytes, &mut column[0..n]);
     came
 }
 
 // The same of long numbers.
-fn take_quads(fd: i32, n: usize, column: &mut [u32]) -> bool {
+fn take_quads(cases: &mut impl Read, n: usize, column: &mut [u32]) -> bool {
     let mut bytes = [0u8; 4 * MOST];
     if MOST < n {
         return false;
@@ -114,37 +109,37 @@ fn take_quads(fd: i32, n: usize, column: &mut [u32]) -> bool {
     if column.len() < n {
         return false;
     }
-    let came = files::filled_front(fd, 4 * n, &mut bytes);
+    let came = files::filled_front(cases, 4 * n, &mut bytes);
     decode_quads(&bytes, &mut column[0..n]);
     came
 }
 
 // Whether the two columns of bytes came, each with as many entries as the header says.
-fn take_kinds(fd: i32, head: &[u8; 40], kind: &mut [u8], vkind: &mut [u8]) -> bool {
-    let kinds = files::filled_front(fd, long(head, 8), kind);
-    let vkinds = files::filled_front(fd, long(head, 12), vkind);
+fn take_kinds(cases: &mut impl Read, head: &[u8; 40], kind: &mut [u8], vkind: &mut [u8]) -> bool {
+    let kinds = files::filled_front(cases, long(head, 8), kind);
+    let vkinds = files::filled_front(cases, long(head, 12), vkind);
     kinds & vkinds
 }
 
 // The same of the four columns of numbers.
 fn take_numbers(
-    fd: i32,
+    cases: &mut impl Read,
     head: &[u8; 40],
     name: &mut [u16],
     parent: &mut [u16],
     begin: &mut [u16],
     end: &mut [u16],
 ) -> bool {
-    let names = take_pairs(fd, long(head, 16), name);
-    let parents = take_pairs(fd, long(head, 20), parent);
-    let begins = take_pairs(fd, long(head, 24), begin);
-    let ends = take_pairs(fd, long(head, 28), end);
+    let names = take_pairs(cases, long(head, 16), name);
+    let parents = take_pairs(cases, long(head, 20), parent);
+    let begins = take_pairs(cases, long(head, 24), begin);
+    let ends = take_pairs(cases, long(head, 28), end);
     names & parents & begins & ends
 }
 
 // The same of all columns.
 fn take_columns(
-    fd: i32,
+    cases: &mut impl Read,
     head: &[u8; 40],
     kind: &mut [u8],
     vkind: &mut [u8],
@@ -155,10 +150,10 @@ fn take_columns(
     value: &mut [i32],
     item: &mut [u32],
 ) -> bool {
-    let kinds = take_kinds(fd, head, kind, vkind);
-    let numbers = take_numbers(fd, head, name, parent, begin, end);
-    let values = take_signed(fd, long(head, 32), value);
-    let items = take_quads(fd, long(head, 36), item);
+    let kinds = take_kinds(cases, head, kind, vkind);
+    let numbers = take_numbers(cases, head, name, parent, begin, end);
+    let values = take_signed(cases, long(head, 32), value);
+    let items = take_quads(cases, long(head, 36), item);
     kinds & numbers & values & items
 }
 
@@ -186,11 +181,9 @@ fn put_end(text: &mut [u8], at: usize, i: usize, n: usize) -> usize {
 // An image in lines of digits.
 fn put_image(text: &mut [u8], at: usize, image: &[u8]) -> usize {
     let mut to = at;
-    let mut i = 0;
-    while i < image.len() {
-        to = put_byte(text, to, image[i]);
-        i += 1;
-        to = put_end(text, to, i, image.len());
+    for (i, byte) in image.iter().enumerate() {
+        to = put_byte(text, to, *byte);
+        to = put_end(text, to, i + 1, image.len());
     }
     to
 }
@@ -213,18 +206,19 @@ fn put_output(text: &mut [u8], at: usize, output: Output) -> usize {
 }
 
 // All lines of one case.
-fn write_answer(number: usize, output: Output, image: &[u8]) {
+fn write_answer(rt: &impl Print, number: usize, output: Output, image: &[u8]) -> io::Result<()> {
     let mut text = [0u8; TEXT];
     let word = spelling::put(&mut text, 0, b"case");
     let named = spelling::put_next(&mut text, word, number);
     let at = spelling::put(&mut text, named, b"\n");
     let told = put_output(&mut text, at, output);
     let end = put_image(&mut text, told, image);
-    io::write_all(STDOUT_FILENO, spelling::front(&text, end));
+    rt.write_all(spelling::front(&text, end))
 }
 
 // Has the records of a case written to a lent image, from exactly the header's part of each column, and writes its lines.
 fn answer(
+    rt: &impl Print,
     number: usize,
     head: &[u8; 40],
     kind: &[u8],
@@ -236,7 +230,7 @@ fn answer(
     value: &[i32],
     item: &[u32],
     image: &mut [u8],
-) {
+) -> io::Result<()> {
     let output = bank::write_nodes(
         long(head, 0),
         spelling::front(kind, long(head, 8)),
@@ -249,11 +243,12 @@ fn answer(
         front_quads(item, long(head, 36)),
         image,
     );
-    write_answer(number, output, image);
+    write_answer(rt, number, output, image)
 }
 
 // The same in an image of exactly the header's room that no writer has touched; not if that is more than there may be.
 fn answer_in(
+    rt: &impl Print,
     number: usize,
     head: &[u8; 40],
     kind: &[u8],
@@ -264,21 +259,26 @@ fn answer_in(
     end: &[u16],
     value: &[i32],
     item: &[u32],
-) -> bool {
+) -> io::Result<bool> {
     let mut image = [165u8; ROOM];
     let room = long(head, 4);
     if ROOM < room {
-        return false;
+        return Ok(false);
     }
     let lent = &mut image[0..room];
     answer(
-        number, head, kind, vkind, name, parent, begin, end, value, item, lent,
-    );
-    true
+        rt, number, head, kind, vkind, name, parent, begin, end, value, item, lent,
+    )?;
+    Ok(true)
 }
 
 // Whether the case after this header is whole, of columns and an image no longer than they may be; its lines are written.
-fn whole_case(fd: i32, number: usize, head: &[u8; 40]) -> bool {
+fn whole_case(
+    rt: &impl Print,
+    cases: &mut impl Read,
+    number: usize,
+    head: &[u8; 40],
+) -> io::Result<bool> {
     let mut kind = [0u8; MOST];
     let mut vkind = [0u8; MOST];
     let mut name = [0u16; MOST];
@@ -288,7 +288,7 @@ fn whole_case(fd: i32, number: usize, head: &[u8; 40]) -> bool {
     let mut value = [0i32; MOST];
     let mut item = [0u32; MOST];
     if !take_columns(
-        fd,
+        cases,
         head,
         &mut kind,
         &mut vkind,
@@ -299,30 +299,30 @@ fn whole_case(fd: i32, number: usize, head: &[u8; 40]) -> bool {
         &mut value,
         &mut item,
     ) {
-        return false;
+        return Ok(false);
     }
     answer_in(
-        number, head, &kind, &vkind, &name, &parent, &begin, &end, &value, &item,
+        rt, number, head, &kind, &vkind, &name, &parent, &begin, &end, &value, &item,
     )
 }
 
 // Whether there was one more case in the file; its lines are written.
-fn one_case(fd: i32, number: usize) -> bool {
+fn one_case(rt: &impl Print, cases: &mut impl Read, number: usize) -> io::Result<bool> {
     let mut head = [0u8; 40];
-    files::filled(fd, &mut head) && whole_case(fd, number, &head)
+    if !files::filled(cases, &mut head) {
+        return Ok(false);
+    }
+    whole_case(rt, cases, number, &head)
 }
 
-fn main() {
-    let fd = os::open_read(b"writes.blk");
-    if fd < 0 {
-        io::write_all(STDOUT_FILENO, b"unreadable writes.blk\n");
-        return;
-    }
-    let mut number: usize = 0;
-    while number < MANY {
-        if !one_case(fd, number) {
-            return;
+fn main(rt: HostRuntime) -> io::Result<()> {
+    let Ok(mut cases) = fs::open(&rt, "writes.blk") else {
+        return rt.write_all(b"unreadable writes.blk\n");
+    };
+    for number in 0..MANY {
+        if !one_case(&rt, &mut cases, number)? {
+            return Ok(());
         }
-        number += 1;
     }
+    Ok(())
 }
