@@ -9,7 +9,7 @@ use borrow.Author.Tests.{eqb-true, le-leb, leb-true}
 use lib.Dec.{eqb, leb}
 use lib.ListN.{length}
 use Rattle.meaning.proofs.Basics.{went, and_l, and_r, both, or_cases}
-use Rattle.selectors.specs.Parts.{up_to, later, parts, each, same}
+use Rattle.selectors.specs.Parts.{up_to, later, parts, each}
 use Rattle.selectors.specs.Profile.{is_letter, is_inner, is_name, is_star, is_step, steps, in_profile}
 use Rattle.selectors.proofs.Separating.{other, each-other, first-joined, later-joined, first-all, later-all}
 use Rattle.selectors.proofs.Sameness.{same-equal}
@@ -33,7 +33,7 @@ unfolding joined up_to later
 joined-parts sep [] = refl
 joined-parts sep (x ∷ s) =
     ⊎_elim
-    (λ t. rw t (rw (← eqb-true x sep t) (ap (λ l. x ∷ l) (rw (eqb-true x sep t) (joined-parts sep s)))))
+    (λ t. rw t (rw (← eqb-true x sep t) (ap (λ l. x ∷ l) (joined-parts sep s))))
     (λ t. rw t (ahead sep x (up_to sep s) (later sep s) ∙ ap (λ l. x ∷ l) (joined-parts sep s)))
     (went (eqb x sep))
 
