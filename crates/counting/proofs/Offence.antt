@@ -21,7 +21,6 @@ use Rattle.meaning.proofs.Basics.{went, tests_same, and_l, and_r, and_same, both
 use Rattle.meaning.proofs.Walks.{any_some, any-true, count_same, first-same}
 use Rattle.meaning.proofs.Says.{says}
 use Rattle.meaning.proofs.Selects.{selected-version, selected-here, field_version}
-use Rattle.meaning.proofs.Slices.{stands}
 use Rattle.columns.specs.Lent.{Periods}
 use Rattle.columns.specs.Judgeable.{Judgeable}
 use Rattle.values.specs.Represents.{Represents}

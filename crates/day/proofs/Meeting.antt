@@ -11,7 +11,7 @@ use borrow.Author.Tests.{eqb-true, eqb-false, eq-eqb, ne_eqb}
 use Rattle.meaning.proofs.Basics.{went, and_same, or_r}
 use Rattle.marks.specs.Marks.{marked}
 use Rattle.day.specs.Ready.{counted, referring}
-use Rattle.day.specs.Row.{number, only, Tallied, outside, wrong, keeps, row_breaks, row_keeps, Met}
+use Rattle.day.specs.Row.{only, Tallied, outside, wrong, keeps, row_breaks, row_keeps, Met}
 
 -- a row is settled if its number is outside, its mode asks no more, or it has not one value only
 abbrev settled : Bool → Bool → Bool → Bool

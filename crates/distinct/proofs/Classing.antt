@@ -5,8 +5,8 @@ use mathlib.Core.Logic.{◌⊎◌, inl, inr, ⊎_elim}
 use mathlib.Core.List.{List}
 use Prim.Native.Nat.{ℕ, zero, suc, ◌+◌, ◌-◌, ◌≤◌, ◌<◌}
 use native.Mathlib.Omega.{arith}
-use lib.Dec.{eqb, ltb}
-use lib.ListN.{length, get_or, set, take, replicate, get_or-replicate, length-take, length-replicate}
+use lib.Dec.{eqb}
+use lib.ListN.{length, set, take, replicate, get_or-replicate, length-take, length-replicate}
 use lib.Seq.{get_or-set_same, get_or-set_other}
 use Rattle.meaning.specs.Block.{limit}
 use Rattle.meaning.proofs.Basics.{went, clear, le_or_lt}
@@ -14,7 +14,7 @@ use Rattle.meaning.proofs.Says.{says}
 use Rattle.columns.specs.Chains.{past_last, keyed, Chained}
 use Rattle.columns.proofs.Along.{past-low, past-in}
 use Rattle.crowds.specs.Crowds.{at}
-use Rattle.distinct.specs.Classes.{Valued, Pairs, has_key, Linked, Classed, Done, Stand}
+use Rattle.distinct.specs.Classes.{Pairs, has_key, Linked, Classed, Done, Stand}
 
 pub same_or : (a b : ℕ) → (a ≡ b) ⊎ (a ≡ b → ⊥)
 same_or a b = ⊎_elim (λ y. inl (simp says at y)) (λ z. inr (simp says at z)) (went (eqb a b))

@@ -4,14 +4,14 @@ use mathlib.Core.List.{List}
 use mathlib.Core.Logic.{⊎_elim}
 use Prim.Native.Nat.{ℕ, ◌-◌, ◌≤◌, ◌<◌}
 use native.Mathlib.Omega.{arith}
-use lib.Dec.{eqb, ltb}
+use lib.Dec.{eqb}
 use lib.ListN.{length, get_or, take, length-take, get_or-eq_default}
 use lib.Seq.{get_or-take}
 use borrow.Author.Tests.{eqb-true, lt-ltb}
 use Rattle.meaning.proofs.Basics.{le_or_lt}
 use Rattle.orders.specs.Order.{InOrder}
 use Rattle.passes.specs.Passes.{at, On, Covers}
-use Rattle.pieces.specs.Lone.{Laid, Alone, Stretched}
+use Rattle.pieces.specs.Lone.{Laid, Stretched}
 use Rattle.pieces.specs.Merged.{GivenApart, ByGapApart}
 use Rattle.parts.specs.Ground.{Ground}
 use Rattle.parts.specs.Keyed.{ValueKeys}

@@ -1,19 +1,19 @@
 -- Marked records and those that have a key in one order: what is promised along it comes to few records from `first` on, and that to few values.
 use mathlib.Core.Path.{◌≡◌, refl, sym, ◌∙◌, ap}
-use mathlib.Core.Bool.{Bool, true, false, ◌&&◌, ◌||◌, not, cond}
+use mathlib.Core.Bool.{Bool, true, false, ◌&&◌, not}
 use mathlib.Core.Logic.{⊎_elim}
 use mathlib.Core.List.{List}
 use Prim.Native.Nat.{ℕ, ◌≤◌, ◌<◌}
 use native.Mathlib.Omega.{arith}
-use lib.Dec.{eqb, leb, ltb}
+use lib.Dec.{eqb, ltb}
 use borrow.Author.Tests.{lt-ltb}
 use Rattle.meaning.specs.Block.{limit}
-use Rattle.meaning.specs.Walk.{any, count}
+use Rattle.meaning.specs.Walk.{any}
 use Rattle.meaning.proofs.Basics.{went, both, or_l, or_r, le_or_lt}
 use Rattle.meaning.proofs.Says.{says}
 use Rattle.meaning.proofs.Walks.{any_none}
 use Rattle.marks.specs.Marks.{marked}
-use Rattle.passes.specs.Passes.{at, On, Present}
+use Rattle.passes.specs.Passes.{at, On}
 use Rattle.crowds.specs.Crowds.{keyed_at, present, Ordered}
 use Rattle.crowds.proofs.Counts.{count-mono}
 use Rattle.distinct.specs.Classes.{Pairs}

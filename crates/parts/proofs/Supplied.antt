@@ -4,7 +4,6 @@ use mathlib.Core.List.{List}
 use Prim.Native.Nat.{ℕ, ◌≤◌, ◌<◌}
 use native.Mathlib.Omega.{arith}
 use lib.ListN.{length, replicate, get_or-replicate}
-use Rattle.marks.specs.Marks.{marked}
 use Rattle.passes.specs.Passes.{at, On, Covers, ByGap}
 use Rattle.passes.specs.Given.{GivenGap}
 use Rattle.crowds.specs.Crowds.{present}

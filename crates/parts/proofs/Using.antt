@@ -11,12 +11,11 @@ use borrow.Author.Tests.{leb-true, ltb-true, le-leb, lt-ltb, le-ltb, eqb-true, e
 use Rattle.meaning.specs.Block.{limit}
 use Rattle.meaning.specs.Walk.{count}
 use Rattle.meaning.proofs.Basics.{and_l, and_r, both, le_or_lt}
-use Rattle.marks.specs.Marks.{marked}
 use Rattle.passes.specs.Passes.{at, On, Covers, Present, ByLeast, ByClash, ByGap}
 use Rattle.passes.specs.Given.{GivenLeast, GivenClash, GivenGap}
 use Rattle.parts.specs.Ground.{Ground}
 use Rattle.parts.specs.Keyed.{Numbered, DemandKeys, ValueKeys}
-use Rattle.crowds.specs.Crowds.{keyed_at, present, ByMany, Ordered}
+use Rattle.crowds.specs.Crowds.{keyed_at, ByMany, Ordered}
 use Rattle.parts.specs.Parts.{ByTwice, ByShared, ByUnheld, ByFew, Small}
 use Rattle.parts.proofs.Tallies.{counted, some, two, count_less}
 

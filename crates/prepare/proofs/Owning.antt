@@ -10,7 +10,7 @@ use lib.ListN.{length, get_or, set}
 use borrow.Author.Tests.{eq-eqb, ne_eqb, eqb-true}
 use Rattle.meaning.specs.declared.Rule.{Rule}
 use Rattle.meaning.specs.Block.{limit}
-use Rattle.meaning.specs.Document.{Doc, above}
+use Rattle.meaning.specs.Document.{Doc}
 use Rattle.meaning.specs.Walk.{any}
 use Rattle.meaning.specs.Select.{selected, field_of, reads_own}
 use Rattle.meaning.proofs.Basics.{went, le_or_lt, clear, never, tests_same, and_l, and_r, both, or_r}

@@ -1,6 +1,6 @@
 -- What matters to a rule beside its wrong values: to a key, a unique rule and a reference, sequenced or not, all that has a value; in windows a cardinality
 -- that counts values and a datatype pass over nils.
-use mathlib.Core.Path.{◌≡◌, refl, ap, ◌∙◌}
+use mathlib.Core.Path.{◌≡◌, refl}
 use mathlib.Core.Logic.{⊎_elim}
 use mathlib.Core.Bool.{true, false, ◌&&◌, ◌||◌, not, and-true}
 use Prim.Native.Nat.{ℕ, zero, suc, ◌≤◌}

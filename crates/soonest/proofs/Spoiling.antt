@@ -1,21 +1,21 @@
 -- Of the nils in rows, by their begins, the first that has a place has the soonest.
 use mathlib.Core.Path.{◌≡◌, refl, sym, ap, ◌∙◌}
-use mathlib.Core.Logic.{◌⊎◌, inl, inr, ⊎_elim}
+use mathlib.Core.Logic.{⊎_elim}
 use mathlib.Core.Bool.{Bool, true, false, ◌&&◌, ◌||◌, not}
 use mathlib.Core.List.{List}
 use Prim.Native.Nat.{ℕ, ◌+◌, ◌≤◌, ◌<◌}
 use native.Mathlib.Omega.{arith}
 use borrow.Author.Count.{below_more}
-use borrow.Author.Tests.{eqb-true, eq-eqb, ltb-true, lt-ltb}
+use borrow.Author.Tests.{eqb-true, eq-eqb, lt-ltb}
 use lib.IntN.{ℤ}
 use lib.Dec.{eqb, ltb}
 use lib.ListN.{length, get_or}
 use Rattle.meaning.specs.declared.Rule.{Rule}
 use Rattle.meaning.specs.Document.{Doc, is_version}
 use Rattle.meaning.specs.Rules.{is_key, is_reference}
-use Rattle.meaning.specs.Select.{valued, is_nil, present, gives, has_nil}
+use Rattle.meaning.specs.Select.{is_nil, present, gives, has_nil}
 use Rattle.meaning.specs.Window.{meets}
-use Rattle.meaning.proofs.Basics.{le_or_lt, clear, never, and_l, and_r, both, or_cases}
+use Rattle.meaning.proofs.Basics.{le_or_lt, clear, never, and_r, both, or_cases}
 use Rattle.meaning.proofs.Walks.{any-true}
 use Rattle.meaning.proofs.Says.{says}
 use Rattle.meaning.proofs.Selects.{version-here}

@@ -1,7 +1,7 @@
 -- What an offender in a window comes to, by the kind of its rule.
 use mathlib.Core.Path.{◌≡◌, refl, sym, ◌∙◌, ap}
 use mathlib.Core.Logic.{◌⊎◌, inl, inr, ⊎_elim}
-use mathlib.Core.Bool.{Bool, true, false, ◌&&◌, ◌||◌, not, and-false}
+use mathlib.Core.Bool.{Bool, true, false, ◌&&◌, ◌||◌, not}
 use mathlib.Core.List.{List}
 use Prim.Native.Nat.{ℕ, zero, suc, ◌≤◌, ◌<◌}
 use native.Mathlib.Omega.{arith}
@@ -11,13 +11,13 @@ use lib.Dec.{leb, eqb}
 use lib.ListN.{get_or}
 use borrow.Author.Tests.{leb-false, ltb-true, not-true}
 use Rattle.meaning.specs.declared.Rule.{Rule}
-use Rattle.meaning.specs.Walk.{any, count, first}
+use Rattle.meaning.specs.Walk.{count}
 use Rattle.meaning.specs.Document.{Doc, number_of}
 use Rattle.meaning.specs.Rules.{by_kind, is_sequenced}
-use Rattle.meaning.specs.Select.{selected, valued, is_nil, same_value, present, gives, has_nil, has}
+use Rattle.meaning.specs.Select.{selected, valued, is_nil, present, gives, has_nil, has}
 use Rattle.meaning.specs.Window.{Window, shortened, meets, valueless, shares, shared_in, key_in, reference_in, under, counts, cardinality_in, breaks_in, offends_in}
-use Rattle.meaning.proofs.Basics.{went, le_or_lt, clear, and_l, and_r, both, and_else, or_cases, neither_l, neither_r}
-use Rattle.meaning.proofs.Walks.{Passes, Lowest, any_some, any-true, any_none, first_found, first-nothing}
+use Rattle.meaning.proofs.Basics.{went, clear, and_l, and_r, both, and_else, or_cases, neither_l, neither_r}
+use Rattle.meaning.proofs.Walks.{any_some, any-true}
 use Rattle.meaning.proofs.Says.{says}
 use Rattle.meaning.proofs.Selects.{version-here, selected-here}
 use Rattle.columns.specs.Judgeable.{Judgeable}

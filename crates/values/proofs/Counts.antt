@@ -1,7 +1,7 @@
 -- Where a window counts values it counts those that are no nils, each at the lowest version that has it.
 use mathlib.Core.Path.{◌≡◌, sym, ◌∙◌, ap, ap₂}
 use mathlib.Core.Logic.{⊎_elim}
-use mathlib.Core.Bool.{Bool, true, false, ◌&&◌, ◌||◌, not, and-true, and-false}
+use mathlib.Core.Bool.{Bool, true, false, ◌&&◌, not, and-true, and-false}
 use Prim.Native.Nat.{ℕ}
 use lib.Dec.{eqb}
 use Rattle.meaning.specs.declared.Rule.{Rule}

@@ -33,7 +33,7 @@ put-lent l part at vs fits p =
     let rest : post_of at (length l - at) l ≡ [] = Post-is at (length l) l (omega arith) ∙ drop-length l in
     record {
       is =
-          rw (p.is, there, rest, append-nil, sets-eq vs (drop at l) 0 (simp length-drop (omega arith)), sets-eq vs l at fits, zero-add, drop-drop (length vs) at l, append_assoc);
+          rw (p.is, there, rest, append-nil, sets-eq vs (drop at l) 0 (simp length-drop (omega arith)), sets-eq vs l at fits, zero-add, drop-drop (length vs) at l, append_assoc, append_assoc);
     }
 
 -- the front of a list holds what was put there

@@ -20,7 +20,7 @@ record_in-requires c = row c.requires.0 c.loop-k-test.true
 
 pub returns-in_default : goal.returns-in_default
 returns-in_default c =
-    let refused = c.enum_told-1.given.1 in
+    let refused = c.in_default.is in
     let told = c.placed.ensures in
     record {
       answer = stops c.args.image.now c.args.n c.loop-k.k c.requires.0 c.loop-k-test.true c.record_in.ensures.bytes c.decode-decoded.ensures refused told ∙ c.loop-k.invariant.3;
@@ -31,7 +31,7 @@ pub loop-k-preserved : goal.loop-k-preserved
 loop-k-preserved c =
     let inv = c.loop-k.invariant in
     let test = c.loop-k-test.true in
-    let sound = c.decoded-1.given.1 in
+    let sound = c.in-Sound.is in
     let numbers = decodes_as c.args.image.now c.args.n c.loop-k.k c.requires.0 test c.record_in.ensures.bytes c.decode-decoded.ensures sound in (
       simp length-set inv.0,
       simp length-set inv.1,

@@ -8,15 +8,15 @@ pub returns-in_default : goal.returns-in_default
 returns-in_default c = bad-blocks _ c.rule_blocks-blocks.ensures c.in_default.is
 
 pub table_size-n-requires : goal.table_size-n-requires
-table_size-n-requires c = sym c.rule_blocks-blocks.ensures ∙ c.enum_told-1.given.1
+table_size-n-requires c = sym c.rule_blocks-blocks.ensures ∙ c.in-Accepted.is
 
 pub returns-in_default-records : goal.returns-in_default-records
 returns-in_default-records c =
-    bad-record _ c.rule_blocks-blocks.ensures c.enum_told-1.given.1 c.table_size-n.ensures.count c.read_records-records.ensures.answer c.enum_told-in_default-records-1.given.1
+    bad-record _ c.rule_blocks-blocks.ensures c.in-Accepted.is c.table_size-n.ensures.count c.read_records-records.ensures.answer c.in_default-records.is
 
 pub returns : goal.returns
 returns c =
     let count = c.table_size-n.ensures.count in
-    let accepted = c.enum_told-in-Accepted-records-1.given.1 in
-    all_read _ c.rule_blocks-blocks.ensures c.enum_told-1.given.1 count c.read_records-records.ensures.answer accepted
+    let accepted = c.in-Accepted-records.is in
+    all_read _ c.rule_blocks-blocks.ensures c.in-Accepted.is count c.read_records-records.ensures.answer accepted
     (refers-by _ count (c.read_records-records.ensures.kept accepted) c.read_references.ensures)

@@ -10,12 +10,12 @@ use Rattle.rules.proofs.fields.places_fit.Goals as goal
 pub returns-then-not-place_fits : goal.returns-then-not-place_fits
 returns-then-not-place_fits c =
     let a = c.args in
-    ap not (sym (place-wrong a.t1 a.steps c.loop-k.k c.loop-k-test.true c.place_fits.ensures (ap not c.if-not-place_fits.true)) ∙ c.loop-k.invariant.1)
+    ap not (sym (place-wrong a.path a.steps c.loop-k.k c.loop-k-test.true c.place_fits.ensures (ap not c.if-not-place_fits.true)) ∙ c.loop-k.invariant.1)
 
 pub loop-k-preserved : goal.loop-k-preserved
 loop-k-preserved c =
     let a = c.args in
-    (search rules, place-right a.t1 a.steps c.loop-k.k c.loop-k-test.true c.place_fits.ensures (ap not c.if-not-place_fits.false) ∙ c.loop-k.invariant.1)
+    (search rules, place-right a.path a.steps c.loop-k.k c.loop-k-test.true c.place_fits.ensures (ap not c.if-not-place_fits.false) ∙ c.loop-k.invariant.1)
 
 pub returns : goal.returns
 returns c = ap not (sym (any-ends _ 8 _ c.loop-k-test.false) ∙ c.loop-k.invariant.1)

@@ -1,0 +1,22 @@
+-- `day::row::count_offends` meets its contract: the number settles it, or the only value does, which is looked up or marked.
+use native.Mathlib.Omega.{arith}
+use Rattle.meaning.proofs.Says.{says}
+use Rattle.day.proofs.Meeting.{met_settled, met_referring, met_distinct}
+use Rattle.day.proofs.row.count_offends.Goals as goal
+
+pub returns-then-out-mode : goal.returns-then-out-mode
+returns-then-out-mode c = λ p n rep row v here found. met_settled p n rep _ _ _ row v _ here _ _ found c.if-out-mode.true
+
+pub bounds-seen-x : goal.bounds-seen-x
+bounds-seen-x c = omega (arith, c.requires (simp says at c.if-out-mode.false).1)
+
+pub returns-then-mode-eq-REFERRING : goal.returns-then-mode-eq-REFERRING
+returns-then-mode-eq-REFERRING c = λ p n rep row v here found. met_referring p n rep _ _ _ row v _ here _ _ found c.if-out-mode.false c.if-mode-eq-REFERRING.true
+
+pub bounds-seen-x-2 : goal.bounds-seen-x-2
+bounds-seen-x-2 c = omega (arith, c.requires (simp says at c.if-out-mode.false).1)
+
+pub returns : goal.returns
+returns c =
+    let low = c.requires (simp says at c.if-out-mode.false).1 in
+    λ p n rep row v here found. met_distinct p n rep _ _ _ row v _ here _ _ found c.if-out-mode.false c.if-mode-eq-REFERRING.false low

@@ -1,0 +1,21 @@
+-- `sharing::row::row_shares` meets its contract: the version is not present, or the walk down its row gave the answer.
+use mathlib.Core.Path.{sym, ◌∙◌}
+use Rattle.day.proofs.Tallying.{chain-from}
+use Rattle.sharing.proofs.Meeting.{room_of, met_absent, met_claimed}
+use Rattle.sharing.proofs.row.row_shares.Goals as goal
+
+pub returns-then-not-present : goal.returns-then-not-present
+returns-then-not-present c = λ row ch. met_absent _ _ _ row _ _ _ _ (sym c.present.ensures ∙ c.if-not-present.true)
+
+pub claim-requires : goal.claim-requires
+claim-requires c =
+    let p = c.requires in
+    record {
+      rooms = room_of _ _ _ _ _ _ p.rooms.1 _ p.rooms.1.mark_room;
+      chain = (p.chain.0, chain-from _ _ _ _ _ c.index.ensures p.chain.1);
+    }
+
+pub returns : goal.returns
+returns c =
+    let here = sym c.present.ensures ∙ c.if-not-present.false in
+    λ row ch. met_claimed _ _ _ row _ _ _ _ here _ _ (c.claim.ensures row (chain-from _ _ _ _ _ c.index.ensures ch))

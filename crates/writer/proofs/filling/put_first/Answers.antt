@@ -1,0 +1,10 @@
+-- `writer::filling::put_first` meets its contract: each number behind the one before it.
+use mathlib.Core.Path.{refl}
+use Rattle.writer.proofs.Puts.{puts_on}
+use Rattle.writer.proofs.filling.put_first.Goals as goal
+
+pub returns : goal.returns
+returns c =
+    let two = puts_on c.put_one.ensures refl c.put_one-2.ensures in
+    let six = puts_on (puts_on two refl c.put_two.ensures) refl c.put_two-2.ensures in
+    puts_on (puts_on six refl c.put_two-3.ensures) refl c.put_two-4.ensures

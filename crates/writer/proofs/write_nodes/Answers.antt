@@ -1,0 +1,34 @@
+-- `writer::write_nodes` meets its contract: refused by the records, then by the image's length, else the image of the records is put and its length answered.
+use native.Mathlib.Omega.{arith}
+use Rattle.meaning.specs.Lent.{lent}
+use Rattle.writer.proofs.Writes.{LentSound, write_refused, accepted-sound, write_short, write_done}
+use Rattle.writer.proofs.write_nodes.Goals as goal
+use Rattle.writer.proofs.write_nodes.Goals.{In_default}
+
+-- what columns satisfy that were accepted
+sound : (c : In_default) → LentSound c.args.count (lent c.args.kind.now c.args.vkind.now c.args.name.now c.args.parent.now c.args.begin.now c.args.end.now c.args.value.now c.args.item.now)
+sound c =
+    accepted-sound c.args.count (lent c.args.kind.now c.args.vkind.now c.args.name.now c.args.parent.now c.args.begin.now c.args.end.now c.args.value.now c.args.item.now) c.args.image.now c.accept_lent-read.ensures c.in_default.is
+
+pub returns-in-Refused : goal.returns-in-Refused
+returns-in-Refused c =
+    write_refused c.args.count (lent c.args.kind.now c.args.vkind.now c.args.name.now c.args.parent.now c.args.begin.now c.args.end.now c.args.value.now c.args.item.now) c.args.image.now c.accept_lent-read.ensures c.in-Refused.is
+
+pub blocks_for-size-requires : goal.blocks_for-size-requires
+blocks_for-size-requires c = (sound (goal.at.blocks_for-size-requires c).In_default).few
+
+pub overflow_mul-size : goal.overflow_mul-size
+overflow_mul-size c = omega (arith, (sound (goal.at.overflow_mul-size c).In_default).few, c.blocks_for-size.ensures.1)
+
+pub returns-then-image-size : goal.returns-then-image-size
+returns-then-image-size c =
+    write_short c.args.count (lent c.args.kind.now c.args.vkind.now c.args.name.now c.args.parent.now c.args.begin.now c.args.end.now c.args.value.now c.args.item.now) c.args.image.now c.accept_lent-read.ensures c.in_default.is _ (omega (arith, c.blocks_for-size.ensures.0)) c.if-image-size.true
+
+pub fill_blocks-requires : goal.fill_blocks-requires
+fill_blocks-requires c =
+    let w = sound (goal.at.fill_blocks-requires c).In_default in
+    (w.few, w.held, omega (arith, c.blocks_for-size.ensures.0))
+
+pub returns : goal.returns
+returns c =
+    write_done c.args.count (lent c.args.kind.now c.args.vkind.now c.args.name.now c.args.parent.now c.args.begin.now c.args.end.now c.args.value.now c.args.item.now) c.args.image.now c.accept_lent-read.ensures c.in_default.is _ (omega (arith, c.blocks_for-size.ensures.0)) c.if-image-size.false c.fill_blocks.ensures
