@@ -1,18 +1,16 @@
 -- Opened images are read into columns such as the plain engine asks for; and the ways out of its `verdict`.
 use mathlib.Core.Path.{◌≡◌, refl, sym, ap, ◌∙◌, subst}
 use mathlib.Core.List.{List}
-use Prim.Native.Nat.{ℕ, ◌-◌, ◌≤◌, ◌<◌}
+use Prim.Native.Nat.{ℕ, ◌-◌, ◌≤◌}
 use lib.IntN.{ℤ}
 use lib.ListN.{length, take}
-use Rattle.meaning.specs.declared.Rule.{Rule}
-use Rattle.meaning.specs.declared.Verdict.{Verdict}
 use Rattle.meaning.specs.declared.Verdict.TheVariants.{Refused}
 use Rattle.meaning.specs.declared.Reading.TheVariants as reading
 use Rattle.meaning.specs.Order.{in_order}
 use Rattle.meaning.specs.Block.{node_form, image_tests}
 use Rattle.meaning.specs.Document.{Doc}
 use Rattle.meaning.specs.Nodes.{doc_of, accept, read_nodes}
-use Rattle.meaning.specs.Rules.{rule_at, rules_of, read_rules}
+use Rattle.meaning.specs.Rules.{read_rules}
 use Rattle.meaning.specs.Answer.{read_changes, tell_verdict}
 use Rattle.meaning.proofs.Orders.{then_accepted}
 use Rattle.meaning.proofs.Sequenced.{sequenced-refused}
