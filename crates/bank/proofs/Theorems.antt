@@ -21,7 +21,7 @@ use Rattle.meaning.specs.declared.Output.TheVariants.{Written, Refused as Unwrit
 use Rattle.meaning.specs.Order.{need, and_then}
 use Rattle.meaning.specs.Document.{Doc, of_nodes}
 use Rattle.meaning.specs.Nodes.{nodes_of, doc_of, read_nodes, image_of}
-use Rattle.meaning.specs.Lent.{Lent, lent, nodes_lent, long_enough, read_lent}
+use Rattle.meaning.specs.Lent.{Lent, lent, nodes_lent}
 use Rattle.meaning.specs.Rules.{rule_at, rules_of, read_rules}
 use Rattle.meaning.specs.Walk.{count, pick}
 use Rattle.meaning.specs.Select.{reads}

@@ -5,14 +5,14 @@ use Prim.Native.Nat.{ℕ, ◌≤◌, ◌<◌}
 use native.Mathlib.Omega.{arith}
 use Rattle.meaning.specs.declared.Reading.TheVariants.{Accepted}
 use Rattle.meaning.specs.Block.{limit}
-use Rattle.meaning.specs.Document.{Doc, node, above}
+use Rattle.meaning.specs.Document.{Doc, node}
 use Rattle.meaning.specs.Nodes.{accept}
 use Rattle.meaning.proofs.Basics.{le_or_lt}
 use Rattle.meaning.proofs.Rows.{ItemRow, VersionRow}
 use Rattle.meaning.proofs.Sound.{Version, Sound}
 use Rattle.meaning.proofs.Slices.{stands, present-alive}
 use Rattle.meaning.proofs.Accepted.{periods, accepted-sound}
-use Rattle.columns.specs.Judgeable.{Under, Seated, Judgeable}
+use Rattle.columns.specs.Judgeable.{Seated, Judgeable}
 
 module _ (doc : Doc) (few : doc.size ≤ limit) (s : Sound doc) where
   dated : (i : ℕ) → i < doc.size → (doc.begin i ≤ 36525) × (doc.end i ≤ 36525)

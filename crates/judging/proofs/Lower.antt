@@ -1,6 +1,6 @@
 -- The lowest record that passes one of two tests is the lower of those that pass each; and what a nil spoils at a place.
 use mathlib.Core.Path.{◌≡◌, sym, ap, ◌∙◌}
-use mathlib.Core.Bool.{Bool, true, false, ◌&&◌, ◌||◌, not, or-false}
+use mathlib.Core.Bool.{Bool, true, false, ◌&&◌, ◌||◌, or-false}
 use Prim.Native.Nat.{ℕ, ◌≤◌, ◌<◌}
 use native.Mathlib.Omega.{arith}
 use lib.Dec.{eqb}
@@ -9,7 +9,6 @@ use Rattle.meaning.specs.declared.Found.TheVariants.{At, Nothing}
 use Rattle.meaning.specs.declared.Rule.{Rule}
 use Rattle.meaning.specs.Walk.{first}
 use Rattle.meaning.specs.Document.{Doc}
-use Rattle.meaning.specs.Rules.{is_key, is_reference}
 use Rattle.meaning.specs.Select.{present, has_nil}
 use Rattle.meaning.proofs.Basics.{or_l, or_r}
 use Rattle.meaning.proofs.Walks.{first-same, first-none, first-nothing, first-at, first_found}

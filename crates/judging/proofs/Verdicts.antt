@@ -10,7 +10,6 @@ use Rattle.meaning.specs.declared.Rule.{Rule}
 use Rattle.meaning.specs.declared.Verdict.TheVariants.{Holds, Fails}
 use Rattle.meaning.specs.Document.{Doc}
 use Rattle.meaning.specs.Rules.{is_sequenced, rule_fields}
-use Rattle.meaning.specs.Window.{meets}
 use Rattle.meaning.specs.Answer.{judged}
 use Rattle.meaning.proofs.Basics.{went, le_or_lt}
 use Rattle.meaning.proofs.Walks.{first-none}

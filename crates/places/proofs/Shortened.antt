@@ -6,7 +6,6 @@ use Prim.Native.Nat.{ℕ, ◌+◌, ◌*◌, ◌≤◌, ◌<◌}
 use native.Mathlib.Omega.{arith}
 use lib.Dec.{leb}
 use borrow.Author.Tests.{leb-true, le-leb, lt-leb, lt-ltb, le-ltb}
-use Rattle.calendar.specs.Gregorian.{month_start, month_day}
 use Rattle.calendar.proofs.Months.{start_in, start_past, month_ascends}
 use Rattle.meaning.specs.Window.{shortened}
 use Rattle.meaning.proofs.Basics.{le_or_lt}

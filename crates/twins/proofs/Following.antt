@@ -1,14 +1,14 @@
 -- One step of the pass along a list of versions, by the tests of the code: version v is left out, or its end becomes the reach of its class.
-use mathlib.Core.Path.{◌≡◌, refl, sym, ◌∙◌}
+use mathlib.Core.Path.{◌≡◌, refl, sym}
 use mathlib.Core.Bool.{true, false, ◌||◌, not}
 use mathlib.Core.List.{List}
-use Prim.Native.Nat.{ℕ, ◌≤◌, ◌<◌}
+use Prim.Native.Nat.{ℕ, ◌<◌}
 use native.Mathlib.Omega.{arith}
 use lib.Dec.{eqb, leb, ltb}
 use lib.ListN.{length, get_or, set}
 use Rattle.meaning.specs.Block.{limit}
 use Rattle.meaning.proofs.Says.{says}
-use Rattle.twins.specs.Apart.{under, class_of, Held, Stored, Follows}
+use Rattle.twins.specs.Apart.{class_of, Held, Stored, Follows}
 
 -- p is the item of v
 module _ (kinds parents begins ends classes : List ℕ) (m v p : ℕ) (ep : p ≡ get_or parents v 0) where

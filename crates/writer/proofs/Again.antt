@@ -1,10 +1,10 @@
 -- Columns that hold the records of an accepted image: they are not refused, and their image is the one that was read.
-use mathlib.Core.Path.{◌≡◌, refl, sym, ap, ◌∙◌}
+use mathlib.Core.Path.{◌≡◌, sym, ap, ◌∙◌}
 use mathlib.Core.List.{List, [], map}
 use Prim.Native.Nat.{ℕ, ◌≤◌, ◌<◌}
 use native.Mathlib.Nat.{zero-add}
 use native.Mathlib.Omega.{arith}
-use lib.IntN.{ℤ, pos}
+use lib.IntN.{pos}
 use lib.ListN.{length, get_or, take, length-map, length-take}
 use lib.Seq.{ext_get_or, get_or-take}
 use Rattle.meaning.specs.declared.Node.{Node}

@@ -1,7 +1,7 @@
 -- What an answer of `write_nodes`, and the lent image afterwards, say of the records and of the image: by which refusal, or what was written.
 use mathlib.Core.Path.{◌≡◌, refl, sym, ap, ◌∙◌}
-use mathlib.Core.Logic.{◌↔◌, ◌⊎◌, inl, inr, ⊎_elim}
-use mathlib.Core.Bool.{Bool, true, false, cond, ◌&&◌}
+use mathlib.Core.Logic.{◌↔◌}
+use mathlib.Core.Bool.{Bool, true, false, ◌&&◌}
 use mathlib.Core.List.{List, ◌++◌}
 use Prim.Native.Nat.{ℕ, ◌+◌, ◌*◌, ◌≤◌, ◌<◌}
 use native.Mathlib.Omega.{arith}
@@ -18,18 +18,16 @@ use Rattle.meaning.specs.declared.Output.{Output}
 use Rattle.meaning.specs.declared.Output.TheVariants.{Written, Refused as Unwritten}
 use Rattle.meaning.specs.Order.{need, and_then}
 use Rattle.meaning.specs.Block.{node_form, limit, blocks_for}
-use Rattle.meaning.specs.Document.{of_nodes}
-use Rattle.meaning.specs.Nodes.{nodes_of, image_of, accept, read_nodes}
+use Rattle.meaning.specs.Nodes.{nodes_of, image_of, read_nodes}
 use Rattle.meaning.specs.Lent.{Lent, node_at, nodes_lent, read_lent, long_enough}
 use Rattle.meaning.specs.Answer.{output_after, image_after, read_write, write_answer, write_image}
 use Rattle.meaning.proofs.Says.{says}
 use Rattle.meaning.proofs.Walks.{map_listed, get_d_listed}
 use Rattle.meaning.proofs.Unique.{output_unique}
-use Rattle.meaning.proofs.Orders.{contrary, came, then_accepted, need-accepted}
+use Rattle.meaning.proofs.Orders.{contrary, then_accepted, need-accepted}
 use Rattle.writer.specs.Promise.{WritePromise}
 use Rattle.writer.proofs.WrittenNodes.{ValuesFit, image-length, image-records, image-read}
 use Rattle.writer.proofs.Writes.{lent-count, LentSound, lent-sound}
-use Rattle.writer.proofs.WriteLines.{FiveToTen, lent-numbers}
 
 -- each value is a number of 32 bits, as the column's type says
 abbrev pub Fitting : ℕ → Lent → Type 0

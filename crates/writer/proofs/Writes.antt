@@ -1,5 +1,5 @@
 -- The answer of `write_nodes` and what it leaves in the lent image, by the way out: refused by the records, too short an image, written.
-use mathlib.Core.Path.{◌≡◌, refl, sym, ap, ◌∙◌}
+use mathlib.Core.Path.{◌≡◌, sym, ap, ◌∙◌}
 use mathlib.Core.List.{List, ◌++◌}
 use Prim.Native.Nat.{ℕ, ◌*◌, ◌≤◌, ◌<◌}
 use native.Mathlib.Omega.{arith}
@@ -8,12 +8,11 @@ use lib.ListN.{length, drop}
 use Rattle.meaning.specs.declared.Reading.{Reading}
 use Rattle.meaning.specs.declared.Reading.TheVariants.{Accepted, Refused}
 use Rattle.meaning.specs.declared.Output.TheVariants.{Written, Refused as Unwritten}
-use Rattle.meaning.specs.Order.{need, and_then}
 use Rattle.meaning.specs.Block.{node_form, limit, blocks_for}
 use Rattle.meaning.specs.Document.{of_nodes}
 use Rattle.meaning.specs.Nodes.{image_of, accept}
 use Rattle.meaning.specs.Lent.{Lent, node_at, nodes_lent, read_lent}
-use Rattle.meaning.specs.Answer.{tell_output, read_write, write_answer, write_image}
+use Rattle.meaning.specs.Answer.{read_write, write_answer, write_image}
 use Rattle.meaning.proofs.Says.{says}
 use Rattle.meaning.proofs.Walks.{length_listed}
 use Rattle.numbers.specs.Put.{Put}

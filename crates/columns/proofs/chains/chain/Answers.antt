@@ -27,11 +27,12 @@ pub loop-i-preserved : goal.loop-i-preserved
 loop-i-preserved c =
     let s = c.loop-i in
     let k = c.index-k in
-    elim c.if-kind-i.branch
-      [ then-kind-i w ↦
+    elim c.if-kind-i.branch [
+      | then-kind-i w ↦
           rw (w.last-is, w.lower-is) (omega arith, chained_store _ _ _ _ _ _ _ s.invariant.1 (omega arith) _ k.ensures w.if-kind-i.true)
       | else-kind-i w ↦
-          rw (w.last-is, w.lower-is) (omega arith, chained_skip _ _ _ _ _ _ _ s.invariant.1 (omega arith) _ k.ensures w.if-kind-i.false) ]
+          rw (w.last-is, w.lower-is) (omega arith, chained_skip _ _ _ _ _ _ _ s.invariant.1 (omega arith) _ k.ensures w.if-kind-i.false)
+    ]
 
 pub returns : goal.returns
 returns c =

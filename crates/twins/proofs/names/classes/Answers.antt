@@ -1,7 +1,6 @@
 -- `twins::names::classes` meets its contract: below i the items of one number have one class and one name, and no two share one unless `shared` says so.
 use Prim.Native.Nat.{◌-◌}
 use mathlib.Core.Path.{refl}
-use mathlib.Core.Logic.{⊎_elim}
 use lib.ListN.{length-set}
 use Rattle.meaning.proofs.Says.{says}
 use Rattle.twins.proofs.Classing.{classed_none, classed_skip, classed_store, alone-none, alone-skip, alone-store}
