@@ -2,7 +2,6 @@
 import glob
 import hashlib
 import os
-import platform
 import shutil
 import struct
 import subprocess
@@ -28,15 +27,14 @@ def tree_hash():
     return total.hexdigest()
 
 
-def command(program):
-    """By the kit's loader and C library, and on another processor than x86-64 by its emulator."""
-    guide = subprocess.run(["rt", "doc"], capture_output=True, text=True).stdout.strip()
-    kit = os.path.dirname(os.path.dirname(guide))
-    tools = os.path.join(kit, "on", platform.machine(), "toolchain")
-    emulator = os.path.join(tools, "bin", "qemu-x86_64")
-    library = os.path.join(tools, "lib")
-    start = [emulator] if os.path.exists(emulator) else []
-    return start + [os.path.join(library, "ld-linux-x86-64.so.2"), "--library-path", library, os.path.join(ROOT, "target", "bin", program)]
+def program_of(crate):
+    """Where rt ci, and rt run in the crate's folder, leave a program."""
+    return os.path.join(ROOT, "crates", crate, "out", crate)
+
+
+def command(crate):
+    """The words that run a proved program, which must have been built."""
+    return [program_of(crate)]
 
 
 def in_rust(folder, name, *source):
