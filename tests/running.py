@@ -1,7 +1,8 @@
-"""How programs are built and run over cases and files of many of them: used by the test scripts."""
+"""How programs are built and run over cases and files of many of them, and how the crates are copied: used by the test scripts."""
 import glob
 import hashlib
 import os
+import re
 import shutil
 import struct
 import subprocess
@@ -35,6 +36,51 @@ def program_of(crate):
 def command(crate):
     """The words that run a proved program, which must have been built."""
     return [program_of(crate)]
+
+
+def scratch(room, names=None):
+    """A copy of the crates, or of those named, for a repository of its own: without what rt made of them, and without their must-fail edits."""
+    for crate in sorted(names or os.listdir(os.path.join(ROOT, "crates"))):
+        for part in os.listdir(os.path.join(ROOT, "crates", crate)):
+            source, to = os.path.join(ROOT, "crates", crate, part), os.path.join(room, "crates", crate, part)
+            if os.path.isdir(source) and part not in ("out", "must-fail"):
+                shutil.copytree(source, to)
+            elif os.path.isfile(source):
+                os.makedirs(os.path.dirname(to), exist_ok=True)
+                shutil.copyfile(source, to)
+    for name in ("crates.txt", "HANDLES"):
+        if os.path.exists(os.path.join(ROOT, name)):
+            shutil.copyfile(os.path.join(ROOT, name), os.path.join(room, name))
+
+
+def graph():
+    """Each crate with the crates of the repository that its line of crates.txt names."""
+    with open(os.path.join(ROOT, "crates.txt")) as file:
+        lines = [line.partition("#")[0].strip() for line in file]
+    return {name.split()[0]: below.split() for name, _, below in (line.partition(":") for line in lines if line)}
+
+
+def below(known, crate):
+    """The crate and every crate of the repository that it reaches."""
+    found, left = set(), [crate]
+    while left:
+        name = left.pop()
+        if name in known and name not in found:
+            found.add(name)
+            left += known[name]
+    return found
+
+
+def said(words, top):
+    """How a command of the kit ends in a folder, and what it says there."""
+    ran = subprocess.run(["rt", *words], cwd=top, stdin=subprocess.DEVNULL, stdout=subprocess.PIPE, stderr=subprocess.STDOUT, text=True, errors="replace")
+    return ran.returncode, ran.stdout
+
+
+def sections(text):
+    """What rt ci says of each proof that it did in this run, by crate: the lines behind `== NAME`, up to its word on the crate."""
+    parts = re.finditer(r"(?ms)^== ([a-z0-9_]+)\n(.*?)^rt: \1 (?:proved|NOT PROVED)$", text)
+    return {part.group(1): part.group(2) for part in parts}
 
 
 def in_rust(folder, name, *source):
