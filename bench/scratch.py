@@ -1,10 +1,11 @@
 """A program in Rattle that is kept as a text and is no crate, built in a scratch copy of the checkout: used by the scripts that measure."""
 import os
 import shutil
-import subprocess
+import sys
 
 HERE = os.path.dirname(os.path.abspath(__file__))
-ROOT = os.path.dirname(HERE)
+sys.path.insert(0, os.path.join(os.path.dirname(HERE), "tests"))
+import running  # noqa: E402
 
 
 class NotBuilt(Exception):
@@ -12,16 +13,15 @@ class NotBuilt(Exception):
 
 
 def build(room, name, needs):
-    """The program of bench/NAME.txt, which names these crates, in a copy of the checkout with what is proved already."""
-    shutil.copytree(os.path.join(ROOT, "crates"), os.path.join(room, "crates"))
-    if os.path.exists(os.path.join(ROOT, "target")):
-        shutil.copytree(os.path.join(ROOT, "target"), os.path.join(room, "target"), ignore=shutil.ignore_patterns("must-fail"))
-    with open(os.path.join(ROOT, "crates.txt")) as file, open(os.path.join(room, "crates.txt"), "w") as copy:
-        copy.write(file.read() + f"{name}: {needs}\n")
+    """The program of bench/NAME.txt, which names these crates, in a copy of the checkout. rt takes what it proved of the others on this machine."""
+    running.scratch(room)
+    with open(os.path.join(room, "crates.txt"), "a") as file:
+        file.write(f"{name}: {needs}\n")
     source = os.path.join(room, "crates", name, "src")
     os.makedirs(source)
     shutil.copy(os.path.join(HERE, f"{name}.txt"), os.path.join(source, "main.rt"))
-    told = subprocess.run(["rt", "check", name], cwd=room, capture_output=True, text=True)
-    if told.returncode != 0:
-        raise NotBuilt(f"bench/{name}.txt could not be built:\n" + told.stdout[-2000:])
-    return os.path.join(room, "target", "bin", name)
+    _, told = running.said(["run"], os.path.dirname(source))
+    program = os.path.join(room, "crates", name, "out", name)
+    if not os.path.exists(program):
+        raise NotBuilt(f"bench/{name}.txt could not be built:\n" + told[-2000:])
+    return program
