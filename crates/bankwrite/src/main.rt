@@ -48,9 +48,9 @@ fn print_refusal(rt: &impl Print, number: usize, place: usize) -> io::Result<()>
 }
 
 // Prints the line of a file that cannot be read.
-fn print_unreadable(rt: &impl Print, name: &str) -> io::Result<()> {
+fn print_unreadable(rt: &impl Print, name: &[u8]) -> io::Result<()> {
     let mut line = [0u8; LINE];
-    let end = spelling::lines::unreadable(&mut line, name.as_bytes());
+    let end = spelling::lines::unreadable(&mut line, name);
     print(rt, &line, end)
 }
 
@@ -58,7 +58,7 @@ fn print_unreadable(rt: &impl Print, name: &str) -> io::Result<()> {
 fn keep(rt: &(impl Files + Print), text: &[u8], image: &[u8]) -> io::Result<()>
     requires { image.now ≡ image_of (text_of text.now).listed }
 {
-    if files::replace(rt, "nodes.blk", "nodes.blk.part", image) {
+    if files::replace(rt, b"nodes.blk", b"nodes.blk.part", image) {
         print_number(rt, b"written", image.len())
     } else {
         rt.write_all(b"unwritable nodes.blk\n")
@@ -125,8 +125,8 @@ fn write_text(rt: &(impl Files + Print), text: &[u8]) -> io::Result<()> {
 
 fn main(rt: HostRuntime) -> io::Result<()> {
     let mut text = [0u8; TEXT_ROOM];
-    let Got::Bytes(n) = files::load(&rt, "records.txt", &mut text) else {
-        return print_unreadable(&rt, "records.txt");
+    let Got::Bytes(n) = files::load(&rt, b"records.txt", &mut text) else {
+        return print_unreadable(&rt, b"records.txt");
     };
     write_text(&rt, spelling::front(&text, n))
 }

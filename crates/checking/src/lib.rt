@@ -29,21 +29,21 @@ fn print_report(rt: &impl Print, nodes: &[u8], rules: &[u8], plainly: bool) -> i
 }
 
 // Prints the line of a file that cannot be read.
-fn print_unreadable(rt: &impl Print, name: &str) -> io::Result<()> {
+fn print_unreadable(rt: &impl Print, name: &[u8]) -> io::Result<()> {
     let mut text = [0u8; report::ROOM];
-    let end = spelling::lines::unreadable(&mut text, name.as_bytes());
+    let end = spelling::lines::unreadable(&mut text, name);
     rt.write_all(spelling::front(&text, end))
 }
 
 // The whole run of a checker; an error is that of the standard output. Cost: that of the report.
 pub fn check(rt: &(impl Files + Print), plainly: bool) -> io::Result<()> {
     let mut nodes = [0u8; NODES_ROOM];
-    let Got::Bytes(n) = files::load(rt, "nodes.blk", &mut nodes) else {
-        return print_unreadable(rt, "nodes.blk");
+    let Got::Bytes(n) = files::load(rt, b"nodes.blk", &mut nodes) else {
+        return print_unreadable(rt, b"nodes.blk");
     };
     let mut rules = [0u8; RULES_ROOM];
-    let Got::Bytes(m) = files::load(rt, "rules.blk", &mut rules) else {
-        return print_unreadable(rt, "rules.blk");
+    let Got::Bytes(m) = files::load(rt, b"rules.blk", &mut rules) else {
+        return print_unreadable(rt, b"rules.blk");
     };
     print_report(
         rt,

@@ -7,10 +7,10 @@ ghost use Rattle.std.specs.Io.KnownBytes.{Consumes};
 ghost use Rattle.files.specs.Within.{Within};
 ghost use Rattle.files.specs.Taken.{TakenOnce, TakenAll};
 
-use std::fs;
 use std::fs::{File, OpenFile};
 use std::io::{Read, Write};
 use std::rt::Files;
+use std::{fs, str};
 
 // What reading a file comes to: how many bytes of the buffer are its own, or that it cannot be read.
 #[derive(Clone, Copy)]
@@ -48,13 +48,24 @@ pub fn fill_from<R: Read>(reader: &mut R, buf: &mut [u8]) -> Got
     Got::Bytes(at)
 }
 
-// The front of the file of this name, as much as the buffer holds. A buffer one byte longer than the largest good file
-// tells a longer one by its length. A directory can be opened and not read: it is unreadable.
-pub fn load(rt: &impl Files, path: &str, buf: &mut [u8]) -> Got
+// The same of the file of this name.
+fn load_named(rt: &impl Files, path: &str, buf: &mut [u8]) -> Got
     ensures { Within result (length buf.old) }
 {
     match File::open(rt, path) {
         Ok(mut file) => fill_from(&mut file, buf),
+        Err(_) => Got::Unreadable,
+    }
+}
+
+// The front of the file of this name, as much as the buffer holds. A buffer one byte longer than the largest good file
+// tells a longer one by its length. A directory can be opened and not read: it is unreadable. The library opens files by names
+// that are text, so a name that is none is unreadable too.
+pub fn load(rt: &impl Files, path: &[u8], buf: &mut [u8]) -> Got
+    ensures { Within result (length buf.old) }
+{
+    match str::from_utf8(path) {
+        Ok(name) => load_named(rt, name, buf),
         Err(_) => Got::Unreadable,
     }
 }
@@ -88,13 +99,25 @@ fn make(rt: &impl Files, path: &str, bytes: &[u8]) -> bool {
     }
 }
 
-// The file `path` replaced by one with these bytes, all at once: they go to the new file `part`, which then takes the name. Whether that was
-// done: if not, `path` is as it was. No `part` is left where it can be removed, be it of a run that was broken off.
-pub fn replace(rt: &impl Files, path: &str, part: &str, bytes: &[u8]) -> bool {
+// The same of files of these names.
+fn replace_named(rt: &impl Files, path: &str, part: &str, bytes: &[u8]) -> bool {
     let _ = fs::remove_file(rt, part);
     if make(rt, part, bytes) && fs::rename(rt, part, path).is_ok() {
         return true;
     }
     let _ = fs::remove_file(rt, part);
     false
+}
+
+// The file `path` replaced by one with these bytes, all at once: they go to the new file `part`, which then takes the name. Whether that was
+// done: if not, `path` is as it was. No `part` is left where it can be removed, be it of a run that was broken off. The library makes files by
+// names that are text, so nothing is done where one is none.
+pub fn replace(rt: &impl Files, path: &[u8], part: &[u8], bytes: &[u8]) -> bool {
+    match str::from_utf8(path) {
+        Ok(path) => match str::from_utf8(part) {
+            Ok(part) => replace_named(rt, path, part, bytes),
+            Err(_) => false,
+        },
+        Err(_) => false,
+    }
 }

@@ -17,9 +17,9 @@ const DICTIONARY_ROOM: usize = 4194304 + 1;
 const LINE: usize = 80;
 
 // Prints the line of a file that cannot be read.
-fn print_unreadable(rt: &impl Print, name: &str) -> io::Result<()> {
+fn print_unreadable(rt: &impl Print, name: &[u8]) -> io::Result<()> {
     let mut line = [0u8; LINE];
-    let end = spelling::lines::unreadable(&mut line, name.as_bytes());
+    let end = spelling::lines::unreadable(&mut line, name);
     rt.write_all(spelling::front(&line, end))
 }
 
@@ -40,7 +40,7 @@ fn print_selector(rt: &impl Print, text: &[u8], dictionary: &[u8]) -> io::Result
 }
 
 // The whole of the file of this name, or that it cannot be read or is longer than the buffer has room for.
-fn load_whole(rt: &impl Files, name: &str, buf: &mut [u8]) -> Got {
+fn load_whole(rt: &impl Files, name: &[u8], buf: &mut [u8]) -> Got {
     let got = files::load(rt, name, buf);
     if let Got::Bytes(n) = got {
         if n < buf.len() {
@@ -52,7 +52,7 @@ fn load_whole(rt: &impl Files, name: &str, buf: &mut [u8]) -> Got {
 
 // The file `dictionary`, whole.
 fn load_dictionary(rt: &impl Files, buf: &mut [u8; DICTIONARY_ROOM]) -> Got {
-    load_whole(rt, "dictionary", buf)
+    load_whole(rt, b"dictionary", buf)
 }
 
 // Prints the line on a text and the first m bytes of a dictionary's buffer.
@@ -69,15 +69,15 @@ fn print_front(
 fn print_on(rt: &(impl Files + Print), text: &[u8]) -> io::Result<()> {
     let mut dictionary = [0u8; DICTIONARY_ROOM];
     let Got::Bytes(m) = load_dictionary(rt, &mut dictionary) else {
-        return print_unreadable(rt, "dictionary");
+        return print_unreadable(rt, b"dictionary");
     };
     print_front(rt, text, &dictionary, m)
 }
 
 fn main(rt: HostRuntime) -> io::Result<()> {
     let mut text = [0u8; TEXT_ROOM];
-    let Got::Bytes(n) = load_whole(&rt, "text", &mut text) else {
-        return print_unreadable(&rt, "text");
+    let Got::Bytes(n) = load_whole(&rt, b"text", &mut text) else {
+        return print_unreadable(&rt, b"text");
     };
     print_on(&rt, spelling::front(&text, n))
 }
