@@ -24,17 +24,17 @@ offending chosen p bad v = chosen v && (p v && bad v)
 
 module _ (n : ℕ) (chosen p : ℕ → Bool) (group : ℕ → ℕ) (bad : ℕ → Bool) where
   -- record u is chosen and present, and of class y
-  abbrev of-class_lem : ℕ → ℕ → Bool
-  of-class_lem y u = chosen u && (p u && eqb (group u) y)
+  abbrev in_class : ℕ → ℕ → Bool
+  in_class y u = chosen u && (p u && eqb (group u) y)
 
   -- the walk has come to record v, a chosen one or the end: the classes of those below it are counted, and none of these offends
   pub record Looked (v : ℕ) (done : List ℕ) : Type 0 where
     pub most : v ≤ n
     pub is_chosen : v < n → chosen v ≡ true
-    pub counted : (y : ℕ) → marked done y ≡ any (of-class_lem y) 0 v
+    pub counted : (y : ℕ) → marked done y ≡ any (in_class y) 0 v
     pub none : (u : ℕ) → u < v → offending chosen p bad u ≡ false
 
-  out_of_class : (y u : ℕ) → chosen u ≡ false → of-class_lem y u ≡ false
+  out_of_class : (y u : ℕ) → chosen u ≡ false → in_class y u ≡ false
   out_of_class y u e = rw e
 
   not_offending : (u : ℕ) → chosen u ≡ false → offending chosen p bad u ≡ false
@@ -45,7 +45,7 @@ module _ (n : ℕ) (chosen p : ℕ → Bool) (group : ℕ → ℕ) (bad : ℕ �
       record {
         most = s.to;
         is_chosen = s.passes;
-        counted = λ y. new y ∙ sym (any_none (of-class_lem y) 0 start (λ u a b. out_of_class y u (s.before u a (omega arith))));
+        counted = λ y. new y ∙ sym (any_none (in_class y) 0 start (λ u a b. out_of_class y u (s.before u a (omega arith))));
         none = λ u h. not_offending u (s.before u (omega arith) h);
       }
 
@@ -58,7 +58,7 @@ module _ (n : ℕ) (chosen p : ℕ → Bool) (group : ℕ → ℕ) (bad : ℕ �
     -- a class counted is that of a lower record, which was not bad
     counted-good : marked done (group v) ≡ true → bad v ≡ false
     counted-good e =
-        let w = any-true (of-class_lem (group v)) 0 v (sym (s.counted (group v)) ∙ e) in
+        let w = any-true (in_class (group v)) 0 v (sym (s.counted (group v)) ∙ e) in
         let u = w.0 in
         let is = simp says at w.1.passes in
         let no = simp says at (s.none u (omega (arith, w.1.below))) in
@@ -82,7 +82,7 @@ module _ (n : ℕ) (chosen p : ℕ → Bool) (group : ℕ → ℕ) (bad : ℕ �
           is_chosen = to.passes;
           counted = λ y.
               met.marks y ∙ ap (λ b. b || (p v && eqb (group v) y)) (s.counted y)
-              ∙ sym (any-skips (of-class_lem y) (suc v) next to.from (λ u a b. out_of_class y u (to.before u a b)) ∙ any_last (of-class_lem y) v ∙ rw (s.is_chosen h));
+              ∙ sym (any-skips (in_class y) (suc v) next to.from (λ u a b. out_of_class y u (to.before u a b)) ∙ any_last (in_class y) v ∙ rw (s.is_chosen h));
           none = λ u b.
               ⊎_elim
               (λ (a : u ≤ v). ⊎_elim (λ q. ap (offending chosen p bad) q ∙ answered ∙ e) (λ (l : u < v). s.none u l) (eq-or-lt_of_le a))

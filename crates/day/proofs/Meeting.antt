@@ -14,7 +14,7 @@ use Rattle.day.specs.Ready.{counted, referring}
 use Rattle.day.specs.Row.{only, Tallied, outside, wrong, keeps, row_breaks, row_keeps, Met}
 
 -- a row is settled if its number is outside, its mode asks no more, or it has not one value only
-abbrev settled : Bool → Bool → Bool → Bool
+abbrev pub settled : Bool → Bool → Bool → Bool
 settled out counts one = out || counts || not one
 
 settled_answer : (o m k r s : Bool) → settled o m k ≡ true → (o || (k && cond m false (cond r (not s) s))) ≡ o

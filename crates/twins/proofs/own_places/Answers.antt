@@ -1,5 +1,4 @@
 -- `twins::own_places` meets its contract: below k each entry is its own place.
-use Prim.Native.Nat.{◌-◌}
 use mathlib.Core.Path.{refl, ◌∙◌}
 use native.Mathlib.Omega.{arith}
 use borrow.Author.Count.{below_more}

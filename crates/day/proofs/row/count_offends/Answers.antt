@@ -1,11 +1,17 @@
 -- `day::row::count_offends` meets its contract: the number settles it, or the only value does, which is looked up or marked.
+use Rattle.std.proofs.Common.{◌≡◌, true, eqb}
 use native.Mathlib.Omega.{arith}
 use Rattle.meaning.proofs.Says.{says}
-use Rattle.day.proofs.Meeting.{met_settled, met_referring, met_distinct}
+use Rattle.day.specs.Row.{outside}
+use Rattle.day.specs.Ready.{counted}
+use Rattle.day.proofs.Meeting.{settled, met_settled, met_referring, met_distinct}
 use Rattle.day.proofs.row.count_offends.Goals as goal
 
 pub returns-then-out-mode : goal.returns-then-out-mode
-returns-then-out-mode c = λ p n rep row v here found. met_settled p n rep _ _ _ row v _ here _ _ found c.if-out-mode.true
+returns-then-out-mode c =
+    let a = c.args in
+    let here-settled : settled (outside a.low a.high a.count) (eqb a.mode counted) (eqb a.count 1) ≡ true = c.if-out-mode.true in
+    λ p n rep row v here found. met_settled p n rep _ _ _ row v _ here _ _ found here-settled
 
 pub bounds-seen-x : goal.bounds-seen-x
 bounds-seen-x c = omega (arith, c.requires (simp says at c.if-out-mode.false).1)

@@ -1,5 +1,4 @@
 -- `twins::days::apart_below` meets its contract: below `low` they lie apart.
-use Prim.Native.Nat.{◌-◌}
 use native.Mathlib.Omega.{arith}
 use Rattle.twins.proofs.Sweeping.{held-fewer, apart_none}
 use Rattle.twins.proofs.days.apart_below.Goals as goal

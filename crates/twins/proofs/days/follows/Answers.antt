@@ -2,7 +2,6 @@
 use Prim.Native.Nat.{◌<◌}
 use native.Mathlib.Omega.{arith}
 use lib.ListN.{length}
-use mathlib.Core.Bool.{false≢true}
 use Rattle.twins.proofs.Following.{follows-other, follows-taken, item-below, class-below}
 use Rattle.twins.proofs.days.follows.Goals as goal
 use Rattle.twins.proofs.days.follows.Goals.{After-index-c, Else-kind-v}
@@ -37,9 +36,6 @@ offset_bounds-reach-c-2 c = omega (arith, class (goal.at.offset_bounds-reach-c-2
 
 pub bounds-reach-c-2 : goal.bounds-reach-c-2
 bounds-reach-c-2 c = omega (arith, class (goal.at.bounds-reach-c-2 c).After-index-c)
-
-pub returns-then-begin-v : goal.returns-then-begin-v
-returns-then-begin-v c = λ e. absurd (false≢true e)
 
 pub offset_bounds-reach-c-3 : goal.offset_bounds-reach-c-3
 offset_bounds-reach-c-3 c = omega (arith, class (goal.at.offset_bounds-reach-c-3 c).After-index-c)

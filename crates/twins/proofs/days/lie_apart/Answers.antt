@@ -1,5 +1,4 @@
 -- `twins::days::lie_apart` meets its contract: the positions below k lie apart.
-use Prim.Native.Nat.{◌-◌}
 use mathlib.Core.Path.{refl, ◌∙◌}
 use mathlib.Core.Bool.{false≢true}
 use native.Mathlib.Omega.{arith}

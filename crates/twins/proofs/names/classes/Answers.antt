@@ -1,5 +1,4 @@
 -- `twins::names::classes` meets its contract: below i the items of one number have one class and one name, and no two share one unless `shared` says so.
-use Prim.Native.Nat.{◌-◌}
 use mathlib.Core.Path.{refl}
 use lib.ListN.{length-set}
 use Rattle.meaning.proofs.Says.{says}
