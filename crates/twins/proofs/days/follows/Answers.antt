@@ -1,6 +1,7 @@
 -- `twins::days::follows` meets its contract: at each of its three answers.
 use Prim.Native.Nat.{◌<◌}
 use native.Mathlib.Omega.{arith}
+use borrow.Author.Rules.{rules}
 use lib.ListN.{length}
 use Rattle.twins.proofs.Following.{follows-other, follows-taken, item-below, class-below}
 use Rattle.twins.proofs.days.follows.Goals as goal
@@ -46,4 +47,4 @@ bounds-reach-c-3 c = omega (arith, class (goal.at.bounds-reach-c-3 c).After-inde
 pub returns : goal.returns
 returns c =
     λ _. follows-taken _ _ _ _ _ _ _ _ c.index-p.ensures c.requires.0 c.if-kind-v.false _ c.index-c.ensures
-    _ (omega (arith, class (goal.at.returns c).After-index-c)) c.if-begin-v.false
+    _ (omega (arith, class (goal.at.returns c).After-index-c)) (search rules)
