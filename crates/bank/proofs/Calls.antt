@@ -8,24 +8,22 @@ use native.Mathlib.Omega.{arith}
 use lib.Dec.{leb}
 use lib.ListN.{length, drop}
 use borrow.Author.Tests.{leb-true, le-leb, lt-leb, le-ltb}
-use Rattle.meaning.specs.declared.Found.{Found}
-use Rattle.meaning.specs.declared.Found.TheVariants.{At, Nothing}
+use Rattle.meaning.specs.Walk.{Found}
+use Rattle.std.specs.Prelude.{Some, None, Result, Ok, Err}
+use Rattle.meaning.specs.Reading.{Reading, Accepted, Refused}
+use Rattle.meaning.specs.declared.Verdict.TheVariants.{Holds, Fails}
+use Rattle.meaning.specs.declared.Refusal.{Refusal}
 use Rattle.meaning.specs.declared.Rule.{Rule}
-use Rattle.meaning.specs.declared.Reading.{Reading}
-use Rattle.meaning.specs.declared.Reading.TheVariants.{Accepted, Refused}
 use Rattle.meaning.specs.declared.Verdict.{Verdict}
-use Rattle.meaning.specs.declared.Verdict.TheVariants.{Holds, Fails, Refused as Unjudged}
-use Rattle.meaning.specs.declared.Listed.{Listed}
-use Rattle.meaning.specs.declared.Listed.TheVariants.{Stored, Refused as Unlisted}
 use Rattle.meaning.specs.Order.{need, and_then}
 use Rattle.meaning.specs.Document.{Doc}
 use Rattle.meaning.specs.Nodes.{doc_of, read_nodes}
-use Rattle.meaning.specs.Rules.{is_sequenced, rule_at, rules_of, read_rules}
+use Rattle.meaning.specs.Rules.{rule_at, rules_of, read_rules}
 use Rattle.meaning.specs.Day.{alive, slice, on_days}
 use Rattle.meaning.specs.Window.{Window, meets, offends_in, offender_in, windows, judge, in_windows}
 use Rattle.meaning.specs.Answer.{referred_by, judged, verdict_after, read_verdict, verdict, storing, lent_after, read_slice, read_changes, sequenced_verdict}
-use Rattle.meaning.proofs.Basics.{went, clear}
-use Rattle.meaning.proofs.Orders.{contrary, came}
+use Rattle.meaning.proofs.Basics.{clear}
+use Rattle.meaning.proofs.Orders.{contrary, came, refused_alike}
 use Rattle.meaning.proofs.Says.{says}
 use Rattle.meaning.proofs.Sound.{Sound}
 use Rattle.meaning.proofs.Walks.{first-at}
@@ -51,8 +49,8 @@ judge-answers f [] k = inl (k, refl)
 judge-answers f (w ∷ ws) k = go (f w) refl (judge-answers f ws (suc k))
   where
     go : (x : Found) → f w ≡ x → Answered (judge f ws (suc k)) → Answered (judge f (w ∷ ws) k)
-    go (At v) e ih = inr (w.from, v, suc k, rw e)
-    go Nothing e ih = rw e ih
+    go (Some v) e ih = inr (w.from, v, suc k, rw e)
+    go None e ih = rw e ih
 
 pub windows-answer : (doc : Doc) (q r : Rule) → Answered (in_windows doc q r)
 unfolding in_windows
@@ -61,21 +59,27 @@ windows-answer doc q r = judge-answers (offender_in doc q r) (windows r) 0
 pub days_answer : (doc : Doc) (q r : Rule) → Answered (on_days doc q r)
 days_answer doc q r = ⊎_elim (λ w. inl (_, w.1)) (λ w. inr (_, _, _, w.verdict)) (on-days doc q r)
 
-judged-answers : (doc : Doc) (q r : Rule) → Answered (judged doc q r)
-unfolding judged
-judged-answers doc q r = ⊎_elim (λ e. rw e (days_answer doc q r)) (λ e. rw e (windows-answer doc q r)) (went (is_sequenced r))
+-- what was judged and not refused is had back
+pub same_ok : {a b : Verdict} → ◌≡◌ {A = Result Verdict Refusal} (Ok a) (Ok b) → a ≡ b
+same_ok e = cc
 
-answered_not_refused : {x : Verdict} → Answered x → {a b : ℕ} → x ≡ Unjudged a b → ⊥
-answered_not_refused (inl w) e = let p = w.1 in let z : ◌≡◌ {A = ℕ} 0 1 = cc in omega arith
-answered_not_refused (inr w) e = let p = w.3 in let z : ◌≡◌ {A = ℕ} 0 1 = cc in omega arith
+-- an answer that is what was judged holds or fails
+pub answers_so : {x : Result Verdict Refusal} {y : Verdict} → x ≡ Ok y → Answered y
+    → ((n : ℕ) × (x ≡ Ok (Holds n))) ⊎ ((d : ℕ) × (v : ℕ) × (n : ℕ) × (x ≡ Ok (Fails d v n)))
+answers_so e (inl w) = inl (w.0, e ∙ ap Ok w.1)
+answers_so e (inr w) = inr (w.0, w.1, w.2, e ∙ ap Ok w.3)
+
+-- a refusal of an answer of one type is one of an answer of another
+refused_as : {A B : Type 0} (why : Refusal) (a b : ℕ) → ◌≡◌ {A = Result A Refusal} (Err why) (Refused a b) → ◌≡◌ {A = Result B Refusal} (Err why) (Refused a b)
+refused_as {A} {B} why a b e = let s = refused_alike {A = A} {k = why.number} {i = why.place} e in ap₂ (λ (x y : ℕ). Refused {A = B} x y) s.0 s.1
 
 -- a verdict is refused exactly where the reading before it was
-after-refused : (x : Reading) {y : Verdict} → Answered y → (a b : ℕ) → (verdict_after x y ≡ Unjudged a b) ↔ (x ≡ Refused a b)
-after-refused Accepted w a b = (λ e. absurd (answered_not_refused w e), λ e. absurd (contrary refl e))
-after-refused (Refused k i) w a b = (λ e. let p : k ≡ a = cc in let q : i ≡ b = cc in ap₂ Refused p q, λ e. let p : k ≡ a = cc in let q : i ≡ b = cc in ap₂ Unjudged p q)
+after-refused : (x : Reading) (y : Verdict) (a b : ℕ) → (verdict_after x y ≡ Refused a b) ↔ (x ≡ Refused a b)
+after-refused Accepted y a b = (λ e. let z : ◌≡◌ {A = ℕ} 0 1 = cc in absurd (omega arith), λ e. absurd (contrary refl e))
+after-refused (Err why) y a b = (refused_as why a b, refused_as why a b)
 
 -- so it is not refused exactly where the reading accepts
-as_accepted : (read : Reading) {x : Verdict} → ((a b : ℕ) → (x ≡ Unjudged a b) ↔ (read ≡ Refused a b)) → ((a b : ℕ) → x ≡ Unjudged a b → ⊥) ↔ (read ≡ Accepted)
+as_accepted : (read : Reading) {x : Result Verdict Refusal} → ((a b : ℕ) → (x ≡ Refused a b) ↔ (read ≡ Refused a b)) → ((a b : ℕ) → x ≡ Refused a b → ⊥) ↔ (read ≡ Accepted)
 as_accepted read w = (
   λ n. ⊎_elim (λ a. a) (λ r. absurd (n r.0 r.1 ((w r.0 r.1).1 r.2))) (came read),
   λ h a b r. contrary h ((w a b).0 r),
@@ -84,50 +88,50 @@ as_accepted read w = (
 -- What a list is stored as.
 module _ (list lent : List ℕ) where
   -- refused by the reading before it, or by 12
-  storing-refused : (x : Reading) (a b : ℕ) → (storing x list lent ≡ Unlisted a b) ↔ (and_then x (need (leb (length list) (length lent)) 12 0) ≡ Refused a b)
+  storing-refused : (x : Reading) (a b : ℕ) → (storing x list lent ≡ Refused a b) ↔ (and_then x (need (leb (length list) (length lent)) 12 0) ≡ Refused a b)
   unfolding storing
-  storing-refused (Refused k i) a b = (λ e. let p : k ≡ a = cc in let q : i ≡ b = cc in ap₂ Refused p q, λ e. let p : k ≡ a = cc in let q : i ≡ b = cc in ap₂ Unlisted p q)
+  storing-refused (Err why) a b = (refused_as why a b, refused_as why a b)
   storing-refused Accepted a b = go (leb (length list) (length lent))
     where
-      go : (t : Bool) → (cond t (Stored (length list)) (Unlisted 12 0) ≡ Unlisted a b) ↔ (need t 12 0 ≡ Refused a b)
+      go : (t : Bool) → (cond t (Ok (length list)) (Refused 12 0) ≡ Refused a b) ↔ (need t 12 0 ≡ Refused a b)
       go true = (λ e. let z : ◌≡◌ {A = ℕ} 0 1 = cc in absurd (omega arith), λ e. absurd (contrary refl e))
-      go false = (λ e. let p : 12 ≡ a = cc in let q : 0 ≡ b = cc in ap₂ Refused p q, λ e. let p : 12 ≡ a = cc in let q : 0 ≡ b = cc in ap₂ Unlisted p q)
+      go false = (refused_as _ a b, refused_as _ a b)
 
   -- stored: the reading accepted, and there is room
-  storing-stored : (x : Reading) (n : ℕ) → storing x list lent ≡ Stored n → (x ≡ Accepted) × (n ≡ length list) × (n ≤ length lent)
+  storing-stored : (x : Reading) (n : ℕ) → storing x list lent ≡ Ok n → (x ≡ Accepted) × (n ≡ length list) × (n ≤ length lent)
   unfolding storing
-  storing-stored (Refused k i) n e = let z : ◌≡◌ {A = ℕ} 0 1 = cc in absurd (omega arith)
+  storing-stored (Err why) n e = let z : ◌≡◌ {A = ℕ} 0 1 = cc in absurd (omega arith)
   storing-stored Accepted n e = go (leb (length list) (length lent)) refl e
     where
-      go : (t : Bool) → leb (length list) (length lent) ≡ t → cond t (Stored (length list)) (Unlisted 12 0) ≡ Stored n → (Accepted ≡ Accepted) × (n ≡ length list) × (n ≤ length lent)
+      go : (t : Bool) → leb (length list) (length lent) ≡ t → cond t (Ok (length list)) (Refused 12 0) ≡ Ok n → (Accepted ≡ Accepted) × (n ≡ length list) × (n ≤ length lent)
       go true h e = let p : length list ≡ n = cc in (refl, sym p, omega (arith, leb-true (length list) (length lent) h))
       go false h e = let z : ◌≡◌ {A = ℕ} 0 1 = cc in absurd (omega arith)
 
-  storing-room : {x : Reading} → x ≡ Accepted → length list ≤ length lent → storing x list lent ≡ Stored (length list)
+  storing-room : {x : Reading} → x ≡ Accepted → length list ≤ length lent → storing x list lent ≡ Ok (length list)
   unfolding storing
   storing-room e h = rw (e, le-leb (length list) (length lent) h)
 
 -- the answer of a call that stores a list, and the list afterwards
-module _ (before : Reading) (list lent : List ℕ) {x : Listed} {after : List ℕ} (e : x ≡ storing before list lent) (l : after ≡ lent_after (storing before list lent) list lent) where
-  pub listed-refused : (a b : ℕ) → (x ≡ Unlisted a b) ↔ (and_then before (need (leb (length list) (length lent)) 12 0) ≡ Refused a b)
+module _ (before : Reading) (list lent : List ℕ) {x : Result ℕ Refusal} {after : List ℕ} (e : x ≡ storing before list lent) (l : after ≡ lent_after (storing before list lent) list lent) where
+  pub listed-refused : (a b : ℕ) → (x ≡ Refused a b) ↔ (and_then before (need (leb (length list) (length lent)) 12 0) ≡ Refused a b)
   listed-refused a b = let w = storing-refused list lent before a b in (λ h. w.0 (sym e ∙ h), λ h. e ∙ w.1 h)
 
-  pub listed-stored : (n : ℕ) → x ≡ Stored n → (before ≡ Accepted) × (n ≡ length list) × (n ≤ length lent)
+  pub listed-stored : (n : ℕ) → x ≡ Ok n → (before ≡ Accepted) × (n ≡ length list) × (n ≤ length lent)
   listed-stored n h = storing-stored list lent before n (sym e ∙ h)
 
-  pub listed-room : before ≡ Accepted → length list ≤ length lent → x ≡ Stored (length list)
+  pub listed-room : before ≡ Accepted → length list ≤ length lent → x ≡ Ok (length list)
   listed-room a h = e ∙ storing-room list lent a h
 
-  pub listed-short : before ≡ Accepted → length lent < length list → x ≡ Unlisted 12 0
+  pub listed-short : before ≡ Accepted → length lent < length list → x ≡ Refused 12 0
   listed-short a h = (listed-refused 12 0).1 (rw (a, lt-leb (length list) (length lent) h))
 
-  pub listed-early : (a b : ℕ) → before ≡ Refused a b → x ≡ Unlisted a b
+  pub listed-early : (a b : ℕ) → before ≡ Refused a b → x ≡ Refused a b
   listed-early a b h = (listed-refused a b).1 (rw h)
 
-  pub listed_kept : (a b : ℕ) → x ≡ Unlisted a b → after ≡ lent
+  pub listed_kept : (a b : ℕ) → x ≡ Refused a b → after ≡ lent
   listed_kept a b h = l ∙ ap (λ y. lent_after y list lent) (sym e ∙ h)
 
-  pub listed-filled : (n : ℕ) → x ≡ Stored n → after ≡ list ++ drop n lent
+  pub listed-filled : (n : ℕ) → x ≡ Ok n → after ≡ list ++ drop n lent
   listed-filled n h = l ∙ ap (λ y. lent_after y list lent) (sym e ∙ h)
 
 -- The verdict of two images and a rule number.
@@ -136,42 +140,42 @@ module _ (nodes rules : List ℕ) (k : ℕ) where
   unfolding read_verdict
   verdict-read = (λ e. simp says at e, λ w. simp says w)
 
-  module _ {x : Verdict} (e : x ≡ verdict nodes rules k) where
-    pub verdict-as_read : (a b : ℕ) → (x ≡ Unjudged a b) ↔ (read_verdict nodes rules k ≡ Refused a b)
+  module _ {x : Result Verdict Refusal} (e : x ≡ verdict nodes rules k) where
+    pub verdict-as_read : (a b : ℕ) → (x ≡ Refused a b) ↔ (read_verdict nodes rules k ≡ Refused a b)
     unfolding verdict
     verdict-as_read a b =
-        let w = after-refused (read_verdict nodes rules k) (judged-answers (doc_of nodes) (referred_by (rules_of rules) k) (rule_at (rules_of rules) k)) a b in
+        let w = after-refused (read_verdict nodes rules k) (judged (doc_of nodes) (referred_by (rules_of rules) k) (rule_at (rules_of rules) k)) a b in
         (λ h. w.0 (sym e ∙ h), λ h. e ∙ w.1 h)
 
-    pub verdict-nodes : (a b : ℕ) → read_nodes nodes ≡ Refused a b → x ≡ Unjudged a b
+    pub verdict-nodes : (a b : ℕ) → read_nodes nodes ≡ Refused a b → x ≡ Refused a b
     unfolding read_verdict
     verdict-nodes a b h = (verdict-as_read a b).1 (rw h)
 
-    pub verdict-rules : read_nodes nodes ≡ Accepted → (a b : ℕ) → read_rules rules ≡ Refused a b → x ≡ Unjudged a b
+    pub verdict-rules : read_nodes nodes ≡ Accepted → (a b : ℕ) → read_rules rules ≡ Refused a b → x ≡ Refused a b
     unfolding read_verdict
     verdict-rules n a b h = (verdict-as_read a b).1 (rw (n, h))
 
-    pub verdict-none : read_nodes nodes ≡ Accepted → read_rules rules ≡ Accepted → length (rules_of rules) ≤ k → x ≡ Unjudged 11 0
+    pub verdict-none : read_nodes nodes ≡ Accepted → read_rules rules ≡ Accepted → length (rules_of rules) ≤ k → x ≡ Refused 11 0
     unfolding read_verdict
     verdict-none n r h = (verdict-as_read 11 0).1 (rw (n, r, le-ltb k (length (rules_of rules)) h))
 
-    pub verdict-as_judged : read_verdict nodes rules k ≡ Accepted → x ≡ judged (doc_of nodes) (referred_by (rules_of rules) k) (rule_at (rules_of rules) k)
+    pub verdict-as_judged : read_verdict nodes rules k ≡ Accepted → x ≡ Ok (judged (doc_of nodes) (referred_by (rules_of rules) k) (rule_at (rules_of rules) k))
     unfolding verdict
     verdict-as_judged h = e ∙ rw h
 
     -- it is not refused exactly where the reading accepts
-    pub verdict-given : ((a b : ℕ) → x ≡ Unjudged a b → ⊥) ↔ (read_verdict nodes rules k ≡ Accepted)
+    pub verdict-given : ((a b : ℕ) → x ≡ Refused a b → ⊥) ↔ (read_verdict nodes rules k ≡ Accepted)
     verdict-given = as_accepted (read_verdict nodes rules k) verdict-as_read
 
   -- the same on sequenced rules alone
-  module _ {x : Verdict} (e : x ≡ sequenced_verdict nodes rules k) where
-    pub sequenced-as_read : (a b : ℕ) → (x ≡ Unjudged a b) ↔ (read_changes nodes rules k ≡ Refused a b)
+  module _ {x : Result Verdict Refusal} (e : x ≡ sequenced_verdict nodes rules k) where
+    pub sequenced-as_read : (a b : ℕ) → (x ≡ Refused a b) ↔ (read_changes nodes rules k ≡ Refused a b)
     unfolding sequenced_verdict
     sequenced-as_read a b =
-        let w = after-refused (read_changes nodes rules k) (days_answer (doc_of nodes) (referred_by (rules_of rules) k) (rule_at (rules_of rules) k)) a b in
+        let w = after-refused (read_changes nodes rules k) (on_days (doc_of nodes) (referred_by (rules_of rules) k) (rule_at (rules_of rules) k)) a b in
         (λ h. w.0 (sym e ∙ h), λ h. e ∙ w.1 h)
 
-    pub sequenced-given : ((a b : ℕ) → x ≡ Unjudged a b → ⊥) ↔ (read_changes nodes rules k ≡ Accepted)
+    pub sequenced-given : ((a b : ℕ) → x ≡ Refused a b → ⊥) ↔ (read_changes nodes rules k ≡ Accepted)
     sequenced-given = as_accepted (read_changes nodes rules k) sequenced-as_read
 
 -- The slice of a node image.
@@ -211,19 +215,19 @@ module _ (doc : Doc) (q r : Rule) where
 
   -- windows without an offender are passed over, up to one that has
   judge-up_to : (ws : List Window) (i : ℕ) (w : Window) (k v : ℕ) → Nth ws i w → ((j : ℕ) (x : Window) → j < i → Nth ws j x → NoFaultIn doc q r x)
-      → offender_in doc q r w ≡ At v → judge (offender_in doc q r) ws k ≡ Fails w.from v (suc (i + k))
+      → offender_in doc q r w ≡ Some v → judge (offender_in doc q r) ws k ≡ Fails w.from v (suc (i + k))
   unfolding judge
   judge-up_to [] i w k v here none e = absurd here
   judge-up_to (b ∷ bs) zero w k v here none e = rw (here, e) (ap (Fails w.from v) (omega arith))
   judge-up_to (b ∷ bs) (suc i) w k v here none e =
-      let clear-window : offender_in doc q r b ≡ Nothing = none_found doc q r b (none 0 b (omega arith) refl) in
+      let clear-window : offender_in doc q r b ≡ None = none_found doc q r b (none 0 b (omega arith) refl) in
       rw clear-window (judge-up_to bs i w (suc k) v here (λ j x l h. none (suc j) x (omega arith) h) e ∙ ap (Fails w.from v) (omega arith))
 
   pub first-fails_in : (d v n : ℕ) → FirstFaultIn doc q r d v n → in_windows doc q r ≡ Fails d v n
   unfolding in_windows offender_in
   first-fails_in d v n f =
       let w = f.window in
-      let e : offender_in doc q r w ≡ At v = first-at (offends_in doc (meets doc w) w q r) v 0 doc.size (omega arith) (omega (arith, f.here)) f.offence (λ u a b. f.lowest u b) in
+      let e : offender_in doc q r w ≡ Some v = first-at (offends_in doc (meets doc w) w q r) v 0 doc.size (omega arith) (omega (arith, f.here)) f.offence (λ u a b. f.lowest u b) in
       judge-up_to (windows r) f.earlier w 0 v f.placed f.first_window e
       ∙ ap₂ (λ (c m : ℕ). Fails c v m) f.start (omega (arith, f.counted))
 

@@ -1,19 +1,18 @@
 // The writer's program: reads `records.txt` of its folder and makes `nodes.blk` of the records that it lists, or prints why it does not.
 #![tactic(auto)]
 
-ghost use Rattle.std.specs.Prelude.{◌≡◌};
-ghost use Rattle.meaning.specs.Lent.{lent};
+ghost use Rattle.std.specs.Prelude.{◌≡◌, Ok};
+ghost use Rattle.writer.specs.Filling.{held};
 ghost use Rattle.meaning.specs.Nodes.{image_of};
-ghost use Rattle.typed.specs.declared.Typed.TheVariants.{Records};
 ghost use Rattle.typed.specs.Listing.{text_of};
 ghost use Rattle.typed.specs.Entered.{Reads};
 ghost use Rattle.bankwrite.specs.Written.{Writes};
 
-use files::Got;
-use meaning::Output;
+use columns::Records;
+use meaning::Refusal;
 use std::io;
 use std::rt::Files;
-use typed::{Typed, TypedRecords};
+use typed::TypedRecords;
 
 // The longest good text: a count of four digits and a line feed; then for each record three digits each of its kind and its value kind, five
 // each of its name, parent, begin and end, eleven characters of its value, ten digits of its item number, and the eight bytes that end them.
@@ -66,23 +65,10 @@ fn keep(rt: &(impl Files + Print), text: &[u8], image: &[u8]) -> io::Result<()>
 }
 
 // The records in the first `count` entries of columns, as an image.
-fn write_nodes<'a>(
-    count: usize,
-    kind: &'a [u8],
-    vkind: &'a [u8],
-    name: &'a [u16],
-    parent: &'a [u16],
-    begin: &'a [u16],
-    end: &'a [u16],
-    value: &'a [i32],
-    item: &'a [u32],
-    image: &mut [u8],
-) -> Output
-    ensures { Writes count (lent kind.now vkind.now name.now parent.now begin.now end.now value.now item.now) image.old result image.new }
+fn write_nodes(count: usize, records: Records<'_>, image: &mut [u8]) -> Result<usize, Refusal>
+    ensures { Writes count (held records.entry) image.old result image.new }
 {
-    writer::write_nodes(
-        count, kind, vkind, name, parent, begin, end, value, item, image,
-    )
+    writer::write_nodes(count, records, image)
 }
 
 // The records that a text lists are written, or refused.
@@ -92,24 +78,23 @@ fn write_records(
     records: TypedRecords,
     count: usize,
 ) -> io::Result<()>
-    requires { Reads text.now records × (records.answer ≡ Records count) }
+    requires { Reads text.now records × (records.answer ≡ Ok count) }
 {
     let mut image = [0u8; IMAGE_ROOM];
-    let output = write_nodes(
-        count,
-        &records.kind,
-        &records.vkind,
-        &records.name,
-        &records.parent,
-        &records.begin,
-        &records.end,
-        &records.value,
-        &records.item,
-        &mut image,
-    );
+    let columns = Records {
+        kind: &records.kind,
+        vkind: &records.vkind,
+        name: &records.name,
+        parent: &records.parent,
+        begin: &records.begin,
+        end: &records.end,
+        value: &records.value,
+        item: &records.item,
+    };
+    let output = write_nodes(count, columns, &mut image);
     match output {
-        Output::Written(size) => keep(rt, text, spelling::front(&image, size)),
-        Output::Refused(number, place) => print_refusal(rt, number, place),
+        Ok(size) => keep(rt, text, spelling::front(&image, size)),
+        Err(Refusal { number, place }) => print_refusal(rt, number, place),
     }
 }
 
@@ -118,14 +103,14 @@ fn write_text(rt: &(impl Files + Print), text: &[u8]) -> io::Result<()> {
     let records = typed::read_text(text);
     let answer = records.answer;
     match answer {
-        Typed::Records(count) => write_records(rt, text, records, count),
-        Typed::Bad(line) => print_number(rt, b"malformed records.txt line", line),
+        Ok(count) => write_records(rt, text, records, count),
+        Err(bad) => print_number(rt, b"malformed records.txt line", bad.line),
     }
 }
 
 fn main(rt: HostRuntime) -> io::Result<()> {
     let mut text = [0u8; TEXT_ROOM];
-    let Got::Bytes(n) = files::load(&rt, b"records.txt", &mut text) else {
+    let Ok(n) = files::load(&rt, b"records.txt", &mut text) else {
         return print_unreadable(&rt, b"records.txt");
     };
     write_text(&rt, spelling::front(&text, n))

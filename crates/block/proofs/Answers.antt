@@ -1,10 +1,10 @@
 -- The answer on a block by its three tests, and on an image block by block. Over plain variables: what each call gave, with what it ensures.
+use Rattle.std.specs.Prelude.{Err}
 use Rattle.std.proofs.Common.{◌≡◌, ℕ, suc, ◌+◌, ◌-◌, ◌*◌, ◌<◌, ◌≤◌, Bool, true, false, not, eqb, List, length, take, drop, sym, refl, ◌∙◌, add-one, arith}
 use native.Mathlib.Nat.{sub-zero}
 use borrow.Author.Tests.{not-true, not-false}
 use Rattle.meaning.specs.declared.Form.{Form}
-use Rattle.meaning.specs.declared.Reading.{Reading}
-use Rattle.meaning.specs.declared.Reading.TheVariants.{Accepted, Refused}
+use Rattle.meaning.specs.Reading.{Reading, Accepted, Refused}
 use Rattle.meaning.specs.Order.{and_then, earliest, in_order}
 use Rattle.meaning.specs.Block.{blocks, block_at, counted, check_fits, header_fits, rest_zero, read_block, size_fits, image_tests}
 use Rattle.meaning.proofs.Says.{says}
@@ -49,7 +49,7 @@ answer_at form image b = read_block form (eqb (suc b) (blocks image)) b (block_a
 
 ends : (x : Reading) → and_then x Accepted ≡ x
 ends Accepted = refl
-ends (Refused number place) = refl
+ends (Err why) = refl
 
 module _ (form : Form) (image : List ℕ) where
   module _ {t : Bool} (e : t ≡ size_fits form image) where

@@ -1,7 +1,7 @@
 -- What the readers of blocks ask of a form and an image, and what they say of a place, of a count of records and of the bytes of one.
 use Rattle.std.specs.Prelude.{◌≡◌, ℕ, ◌+◌, ◌*◌, ◌<◌, ◌≤◌, List, length}
 use Rattle.meaning.specs.declared.Form.{Form}
-use Rattle.meaning.specs.declared.Reading.TheVariants.{Accepted}
+use Rattle.meaning.specs.Reading.{Accepted}
 use Rattle.meaning.specs.Order.{in_order}
 use Rattle.meaning.specs.Block.{blocks, counted, record_at, image_tests, records, record_of}
 

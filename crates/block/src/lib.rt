@@ -6,7 +6,7 @@ ghost use Rattle.meaning.specs.Order.{in_order};
 ghost use Rattle.meaning.specs.Block.{node_form, rule_form, check_step, check, all_zero, check_fits, header_fits, rest_zero, read_block, size_fits, image_tests};
 ghost use Rattle.block.specs.Fair.{Fair, OneBlock, Roomy, Start, Read, Counted, Within, Inside, Part};
 
-use meaning::{Form, Reading};
+use meaning::{Form, Refusal};
 
 // The forms of the two kinds of image.
 pub const NODES: Form = Form {
@@ -25,45 +25,26 @@ pub const RULES: Form = Form {
     base: 20,
 };
 
-// c times 33, modulo 2^32: 32 times, and once more.
-fn times_33(c: u32) -> u32
-    ensures { result ≡ (c * 33) % 2 ^ 32 }
-{
-    std::num::wrapping_add_u32(c << 5, c)
-}
-
 // The check c after one byte more.
 fn checked(c: u32, x: u8) -> u32
     ensures { result ≡ check_step c x }
 {
-    std::num::wrapping_add_u32(times_33(c), x as u32)
+    c.wrapping_mul(33).wrapping_add(u32::from(x))
 }
 
 // The check of the bytes of s.
+#[tactic(auto, using(crate::proofs::Bytewise::check_is_fold), unfolding(meaning::specs::Block::check))]
 pub fn check_of(s: &[u8]) -> u32
     ensures { result ≡ check s.now }
 {
-    let mut c: u32 = 5381;
-    let mut i = 0;
-    while i < s.len() {
-        c = checked(c, s[i]);
-        i += 1;
-    }
-    c
+    s.iter().fold(5381, |c, x| checked(c, *x))
 }
 
 // Whether every byte of s is 0.
 pub fn all_zero(s: &[u8]) -> bool
     ensures { result ≡ all_zero s.now }
 {
-    let mut k = 0;
-    while k < s.len() {
-        if s[k] != 0 {
-            return false;
-        }
-        k += 1;
-    }
-    true
+    s.iter().all(|x| *x == 0)
 }
 
 // The least count of a block: the last one need not be full.
@@ -119,21 +100,30 @@ fn rest_zero(part: &[u8], form: Form) -> bool
 }
 
 // One block by itself: block b of its image, the last one or not.
-pub fn read_block(part: &[u8], form: Form, last: bool, b: usize) -> Reading
+pub fn read_block(part: &[u8], form: Form, last: bool, b: usize) -> Result<(), Refusal>
     requires { OneBlock form b part.now }
     ensures { result ≡ read_block form last b part.now }
 {
     if !check_fits(part) {
-        return Reading::Refused(form.base + 2, b);
+        return Err(Refusal {
+            number: form.base + 2,
+            place: b,
+        });
     }
     if !header_fits(part, form, last, b) {
-        return Reading::Refused(form.base + 3, b);
+        return Err(Refusal {
+            number: form.base + 3,
+            place: b,
+        });
     }
     if !rest_zero(part, form) {
         let count = numbers::two_at(part, 4) as usize;
-        return Reading::Refused(form.base + 4, records_before(form, b) + count);
+        return Err(Refusal {
+            number: form.base + 4,
+            place: records_before(form, b) + count,
+        });
     }
-    Reading::Accepted
+    Ok(())
 }
 
 // The size of an image: one block or more, all whole, not too many.
@@ -145,25 +135,23 @@ fn size_fits(image: &[u8], form: Form) -> bool
 }
 
 // All blocks of an image, in their order.
-pub fn read_blocks(image: &[u8], form: Form) -> Reading
+pub fn read_blocks(image: &[u8], form: Form) -> Result<(), Refusal>
     requires { Fair form }
     ensures { result ≡ in_order (image_tests form image.now) }
 {
     if !size_fits(image, form) {
-        return Reading::Refused(form.base + 1, 0);
+        return Err(Refusal {
+            number: form.base + 1,
+            place: 0,
+        });
     }
     let count = image.len() / 512;
-    let mut b: usize = 0;
-    while b < count {
+    for b in 0..count {
         let at = 512 * b;
         let end = at + 512;
-        let answer = read_block(&image[at..end], form, b + 1 == count, b);
-        let Reading::Accepted = answer else {
-            return answer;
-        };
-        b += 1;
+        read_block(&image[at..end], form, b + 1 == count, b)?;
     }
-    Reading::Accepted
+    Ok(())
 }
 
 // How many records an image of good blocks has.
@@ -201,14 +189,14 @@ pub fn record_part(image: &[u8], form: Form, i: usize) -> &[u8]
 }
 
 // The blocks of a node image, whatever its bytes.
-pub fn node_blocks(image: &[u8]) -> Reading
+pub fn node_blocks(image: &[u8]) -> Result<(), Refusal>
     ensures { result ≡ in_order (image_tests node_form image.now) }
 {
     read_blocks(image, NODES)
 }
 
 // The blocks of a rule image, whatever its bytes.
-pub fn rule_blocks(image: &[u8]) -> Reading
+pub fn rule_blocks(image: &[u8]) -> Result<(), Refusal>
     ensures { result ≡ in_order (image_tests rule_form image.now) }
 {
     read_blocks(image, RULES)

@@ -4,14 +4,14 @@ use mathlib.Core.Path.{◌≡◌, refl, ap}
 use mathlib.Core.Logic.{⊎_elim, by_cases}
 use mathlib.Core.Bool.{Bool, true, false}
 use mathlib.Core.List.{List, [], ◌∷◌, map}
-use Prim.Native.Nat.{ℕ, zero, suc, ◌+◌, ◌*◌, ◌/◌, ◌%◌, ◌≤◌, ◌<◌}
-use native.Mathlib.Nat.{eq-or-lt_of_le, le_of_suc-le-suc, not-suc-le-zero}
+use Prim.Native.Nat.{ℕ, zero, suc, ◌+◌, ◌*◌, ◌/◌, ◌%◌, ◌≤◌, ◌<◌, min}
+use native.Mathlib.Nat.{min-eq_left, min-eq_right, eq-or-lt_of_le, le_of_suc-le-suc, not-suc-le-zero}
 use native.Mathlib.Decide.{dec_le}
 use native.Mathlib.Omega.{arith}
 use borrow.Author.Tests.{le-leb, lt-leb}
 use lib.ListN.{length, get_or}
 use Rattle.calendar.specs.Gregorian.{leap, year_lengths, month_length, month_day, month_start, month_on}
-use Rattle.calendar.specs.declared.Month.TheVariants.{Number, Absent}
+use Rattle.std.specs.Prelude.{Some, None}
 use Rattle.calendar.proofs.Walk.{walk_found, walk_none, walk_first, walk-absent}
 
 -- each number of the list is from 1 to 31
@@ -60,7 +60,13 @@ pub start_last : (k : ℕ) → 1200 ≤ k → month_start k ≡ month_day 1200
 unfolding month_start
 start_last k h = ⊎_elim (λ e. rw (← e)) (λ l. rw (lt-leb k 1200 l)) (eq-or-lt_of_le h)
 
--- which is day 36,525
+-- so its day is that of the lesser of the two
+pub start_least : (k : ℕ) → month_start k ≡ month_day (min k 1200)
+start_least k =
+    by_cases (dec_le k 1200) (λ m. rw (min-eq_left m) (start_in k m))
+    (λ m. let l : 1200 ≤ k = omega arith in rw (min-eq_right l) (start_last k l))
+
+-- from entry 1,200 on it is day 36,525
 pub start_past : (k : ℕ) → 1200 ≤ k → month_start k ≡ 36525
 unfolding month_day month_length
 start_past k h = start_last k h
@@ -85,23 +91,23 @@ start_early k =
     (λ m. omega (arith, start_last k (omega arith), month_early 1200))
 
 -- the month that is answered is one of the table's and starts on the day
-pub month_on-found : (day k : ℕ) → month_on day ≡ Number k → (k ≤ 1200) × (month_start k ≡ day)
+pub month_on-found : (day k : ℕ) → month_on day ≡ Some k → (k ≤ 1200) × (month_start k ≡ day)
 unfolding month_on
 month_on-found day k e = let found = walk_found 0 1201 day k e in (omega arith, found.1)
 
 -- where none is answered, none of the table's months starts on the day
-pub month_on-none : (day : ℕ) → month_on day ≡ Absent → (k : ℕ) → k ≤ 1200 → month_start k ≡ day → ⊥
+pub month_on-none : (day : ℕ) → month_on day ≡ None → (k : ℕ) → k ≤ 1200 → month_start k ≡ day → ⊥
 unfolding month_on
 month_on-none day e k h q = walk_none 0 1201 day k e (omega arith) (omega arith) q
 
 -- the other way round: a month of the table is answered for the day on which it starts
-pub month_on-start : (day k : ℕ) → k ≤ 1200 → month_start k ≡ day → month_on day ≡ Number k
+pub month_on-start : (day k : ℕ) → k ≤ 1200 → month_start k ≡ day → month_on day ≡ Some k
 unfolding month_on
 month_on-start day k h q =
     walk_first 0 1201 day k (omega arith) (omega arith) q (λ j l e. omega (arith, start_ascends j k l (omega arith)))
 
 -- and none where no month of the table starts on the day
-pub month_on-absent : (day : ℕ) → ((k : ℕ) → k ≤ 1200 → month_start k ≡ day → ⊥) → month_on day ≡ Absent
+pub month_on-absent : (day : ℕ) → ((k : ℕ) → k ≤ 1200 → month_start k ≡ day → ⊥) → month_on day ≡ None
 unfolding month_on
 month_on-absent day none = walk-absent 0 1201 day (λ k h. none k (omega arith))
 

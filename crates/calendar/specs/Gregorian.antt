@@ -1,8 +1,6 @@
 -- The Gregorian calendar, months and days counted from 1 January 2000 (MEANING 1): the months' lengths, their starts, and which month starts on a day.
 -- Assumes nothing: these are definitions, and each computes.
-use Rattle.std.specs.Prelude.{Bool, not, ◌&&◌, ◌||◌, cond, List, [], ◌∷◌, ℕ, zero, suc, ◌+◌, ◌/◌, ◌%◌, eqb, leb, get_or}
-use Rattle.calendar.specs.declared.Month.{Month}
-use Rattle.calendar.specs.declared.Month.TheVariants.{Number, Absent}
+use Rattle.std.specs.Prelude.{Bool, not, ◌&&◌, ◌||◌, cond, List, [], ◌∷◌, ℕ, zero, suc, ◌+◌, ◌/◌, ◌%◌, eqb, leb, get_or, Option, Some, None}
 
 -- a leap year: one that 4 divides and 100 does not, or that 400 divides
 unfoldable pub leap : ℕ → Bool
@@ -27,10 +25,10 @@ unfoldable pub month_start : ℕ → ℕ
 month_start k = month_day (cond (leb k 1200) k 1200)
 
 -- the lowest of the n months from number k on that starts on the day
-unfoldable pub month_from : ℕ → ℕ → ℕ → Month
-month_from k zero day = Absent
-month_from k (suc n) day = let rest = month_from (suc k) n day in cond (eqb (month_start k) day) (Number k) rest
+unfoldable pub month_from : ℕ → ℕ → ℕ → Option ℕ
+month_from k zero day = None
+month_from k (suc n) day = let rest = month_from (suc k) n day in cond (eqb (month_start k) day) (Some k) rest
 
 -- the month among numbers 0 to 1,200 that starts on the day
-unfoldable pub month_on : ℕ → Month
+unfoldable pub month_on : ℕ → Option ℕ
 month_on day = month_from 0 1201 day

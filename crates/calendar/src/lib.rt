@@ -7,13 +7,6 @@ ghost use Rattle.calendar.specs.Entries.{MonthTable};
 
 mod hundred_years; // hundred_years.rt: the table of month starts
 
-// Which month starts on a day: its number, counted from January 2000, or none.
-#[derive(Clone, Copy)]
-pub enum Month {
-    Number(usize),
-    Absent,
-}
-
 // The number of the table's last entry, January 2100.
 const LAST: usize = 1200;
 
@@ -29,34 +22,29 @@ pub fn entry(table: &[u16; 1201], k: usize) -> u16
     requires { MonthTable table.now }
     ensures { result ≡ month_start k }
 {
-    if k < LAST {
-        return table[k];
-    }
-    table[LAST]
+    table[k.min(LAST)]
 }
 
-// The month that starts on the day, looked up in the table. A month has at most 31 days, so every month before number `day / 31` starts
+// The month that starts on the day, by its number counted from January 2000, looked up in the table. A month has at most 31 days, so every month before number `day / 31` starts
 // before the day; and after the first start that lies past the day all others do too. So some twenty entries are read, not 1,201.
-pub fn month_in(table: &[u16; 1201], day: u16) -> Month
+pub fn month_in(table: &[u16; 1201], day: u16) -> Option<usize>
     requires { MonthTable table.now }
     ensures { result ≡ month_on day }
 {
-    let mut k = (day / 31) as usize;
-    while k <= LAST {
+    for k in usize::from(day / 31)..=LAST {
         let start = entry(table, k);
         if start == day {
-            return Month::Number(k);
+            return Some(k);
         }
         if day < start {
-            return Month::Absent;
+            return None;
         }
-        k += 1;
     }
-    Month::Absent
+    None
 }
 
 // The month that starts on the day, if one of months 0 to 1,200 does.
-pub fn month_on(day: u16) -> Month
+pub fn month_on(day: u16) -> Option<usize>
     ensures { result ≡ month_on day }
 {
     let table = starts();

@@ -4,6 +4,7 @@ use mathlib.Core.Logic.{◌⊎◌, inl, inr, ⊎_elim}
 use mathlib.Core.Bool.{Bool, true, false, ◌&&◌, ◌||◌, not}
 use mathlib.Core.List.{List}
 use Prim.Native.Nat.{ℕ, ◌+◌, ◌≤◌, ◌<◌}
+use Rattle.std.specs.Prelude.{min}
 use native.Mathlib.Nat.{eq-or-lt_of_le}
 use native.Mathlib.Omega.{arith}
 use lib.Dec.{ltb}
@@ -21,7 +22,7 @@ use Rattle.meaning.proofs.Changes.{change_why, why_change}
 use Rattle.columns.specs.Lent.{Lends, Periods}
 use Rattle.marks.specs.Marks.{marked, Marks, after}
 use Rattle.marks.proofs.After.{Next, after_is, after-end}
-use Rattle.changes.specs.Merging.{Sorted, Walkable, read_by, turns_after, Turn, Lesser, DayAt, Merges, Passed, Come}
+use Rattle.changes.specs.Merging.{Sorted, Walkable, read_by, turns_after, Turn, DayAt, Merges, Passed, Come}
 
 -- what a walk is given, put together
 pub merges : (doc : Doc) (q r : Rule) {opens closes begins ends own : List ℕ} {reference : Bool} {referred : List ℕ}
@@ -161,10 +162,13 @@ later-found {order} {days} {own} {reference} {referred} {day} {past} {from} {i} 
     (le_or_lt (length order) i)
 
 -- of two days and the end, the least
-pub later-day : {day past opened closed turned v : ℕ} → Lesser opened closed turned → Lesser turned past v → day < past → day < opened → day < closed
+pub later-day : {day past opened closed turned v : ℕ} → turned ≡ min opened closed → v ≡ min turned past → day < past → day < opened → day < closed
     → (day < v) × (v ≤ past)
-later-day t u l a b =
-    (⊎_elim (λ e. ⊎_elim (λ f. omega arith) (λ f. omega arith) t.one) (λ e. omega arith) u.one, u.second)
+later-day t u l a b = (omega arith, omega arith)
+
+-- the lesser of two is one of them
+one-of : {r : ℕ} (a b : ℕ) → r ≡ min a b → (r ≡ a) ⊎ (r ≡ b)
+one-of a b e = ⊎_elim (λ h. inl (omega arith)) (λ h. inr (omega arith)) (le_or_lt a b)
 
 module _ (doc : Doc) (q r : Rule) {opens closes begins ends own : List ℕ} {reference : Bool} {referred : List ℕ}
     (m : Merges doc q r opens closes begins ends own reference referred) where
@@ -188,7 +192,7 @@ module _ (doc : Doc) (q r : Rule) {opens closes begins ends own : List ℕ} {ref
 
   module _ {begun ended day past : ℕ} (w : Come doc q r opens closes begun ended day) (l : day < past) {i j opened closed turned v : ℕ}
       (ni : Turn opens begins own reference referred day begun i) (nj : Turn closes ends own reference referred day ended j)
-      (a : DayAt opens begins i past opened) (b : DayAt closes ends j past closed) (t : Lesser opened closed turned) (u : Lesser turned past v) where
+      (a : DayAt opens begins i past opened) (b : DayAt closes ends j past closed) (t : turned ≡ min opened closed) (u : v ≡ min turned past) where
     opening : Ahead (reads doc q r) doc.begin opens day i past opened
     opening = ahead doc.begin m.by_begin m.periods.begin.at w.begins ni a
 
@@ -216,8 +220,8 @@ module _ (doc : Doc) (q r : Rule) {opens closes begins ends own : List ℕ} {ref
         (λ e. omega (arith, e, w.since))
         (λ z.
         ⊎_elim
-        (λ e. omega (arith, opening.soonest z.0 z.1 (omega (arith, e)), e, t.first, u.first))
-        (λ e. omega (arith, closing.soonest z.0 z.1 (omega (arith, e)), e, t.second, u.first))
+        (λ e. omega (arith, opening.soonest z.0 z.1 (omega (arith, e)), e))
+        (λ e. omega (arith, closing.soonest z.0 z.1 (omega (arith, e)), e))
         z.2)
         (change_why doc q r k y))
 
@@ -229,9 +233,9 @@ module _ (doc : Doc) (q r : Rule) {opens closes begins ends own : List ℕ} {ref
         ⊎_elim
         (λ f. ⊎_elim (λ g. absurd (omega arith)) (λ z. why_change doc q r v (inr (z.0, z.1, inl (z.2 ∙ sym (e ∙ f))))) opening.turning)
         (λ f. ⊎_elim (λ g. absurd (omega arith)) (λ z. why_change doc q r v (inr (z.0, z.1, inr (z.2 ∙ sym (e ∙ f))))) closing.turning)
-        t.one)
+        (one-of opened closed t))
         (λ e. absurd (omega arith))
-        u.one
+        (one-of turned past u)
 
     pub next-found : v ≡ after (is_change doc q r) (day + 1) past
     next-found =

@@ -1,5 +1,5 @@
 -- The change days of a rule along two orders of the versions, by begin and by end: what an order is, and where a walk along both stands.
-use Rattle.std.specs.Prelude.{◌≡◌, ◌⊎◌, Bool, true, ◌&&◌, ◌||◌, List, ℕ, ◌≤◌, ◌<◌, ltb, length, get_or}
+use Rattle.std.specs.Prelude.{◌≡◌, Bool, true, ◌&&◌, ◌||◌, List, ℕ, ◌≤◌, ◌<◌, ltb, length, get_or}
 use Rattle.meaning.specs.declared.Rule.{Rule}
 use Rattle.meaning.specs.Document.{Doc, is_version}
 use Rattle.meaning.specs.Rules.{is_reference}
@@ -30,12 +30,6 @@ turns_after days own reference referred day x = read_by own reference referred x
 -- i is the first position of an order, from `from` on, whose record is read and has its day after `day`, or the order's length
 pub record Turn (order days own : List ℕ) (reference : Bool) (referred : List ℕ) (day from i : ℕ) : Type 0 where
   pub here : i ≡ after (λ k. turns_after days own reference referred day (get_or order k 0)) from (length order)
-
--- the lesser of two numbers
-pub record Lesser (a b r : ℕ) : Type 0 where
-  pub first : r ≤ a
-  pub second : r ≤ b
-  pub one : (r ≡ a) ⊎ (r ≡ b)
 
 -- the day of position i of an order, `none` past its end
 pub record DayAt (order days : List ℕ) (i none day : ℕ) : Type 0 where

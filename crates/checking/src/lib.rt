@@ -5,7 +5,7 @@
 ghost use Rattle.std.specs.Prelude.{◌≡◌};
 ghost use Rattle.report.specs.Text.{report_of};
 
-use files::Got;
+use report::Engine;
 use std::io;
 use std::rt::Files;
 
@@ -21,10 +21,10 @@ fn write_report(rt: &impl Print, nodes: &[u8], rules: &[u8], text: &[u8]) -> io:
     rt.write_all(text)
 }
 
-// Prints the report on two images, their sequenced rules judged by the plain engine if so asked.
-fn print_report(rt: &impl Print, nodes: &[u8], rules: &[u8], plainly: bool) -> io::Result<()> {
+// Prints the report on two images, their sequenced rules judged by the engine asked for.
+fn print_report(rt: &impl Print, nodes: &[u8], rules: &[u8], engine: Engine) -> io::Result<()> {
     let mut text = [0u8; report::ROOM];
-    let end = report::report_by(&mut text, nodes, rules, plainly);
+    let end = report::report_by(&mut text, nodes, rules, engine);
     write_report(rt, nodes, rules, spelling::front(&text, end))
 }
 
@@ -36,19 +36,19 @@ fn print_unreadable(rt: &impl Print, name: &[u8]) -> io::Result<()> {
 }
 
 // The whole run of a checker; an error is that of the standard output. Cost: that of the report.
-pub fn check(rt: &(impl Files + Print), plainly: bool) -> io::Result<()> {
+pub fn check(rt: &(impl Files + Print), engine: Engine) -> io::Result<()> {
     let mut nodes = [0u8; NODES_ROOM];
-    let Got::Bytes(n) = files::load(rt, b"nodes.blk", &mut nodes) else {
+    let Ok(n) = files::load(rt, b"nodes.blk", &mut nodes) else {
         return print_unreadable(rt, b"nodes.blk");
     };
     let mut rules = [0u8; RULES_ROOM];
-    let Got::Bytes(m) = files::load(rt, b"rules.blk", &mut rules) else {
+    let Ok(m) = files::load(rt, b"rules.blk", &mut rules) else {
         return print_unreadable(rt, b"rules.blk");
     };
     print_report(
         rt,
         spelling::front(&nodes, n),
         spelling::front(&rules, m),
-        plainly,
+        engine,
     )
 }

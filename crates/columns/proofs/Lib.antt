@@ -3,4 +3,5 @@ pub mod Along
 pub mod Linking
 pub mod Twins
 pub mod Namesakes
+pub mod Fronted
 pub mod Judging

@@ -1,13 +1,13 @@
 -- How a pass that chains records goes on: from an empty chain, past a record that is left out, and by a record that is added.
 use mathlib.Core.Path.{◌≡◌, sym, ◌∙◌, ap}
 use mathlib.Core.Logic.{⊎_elim}
-use mathlib.Core.Bool.{Bool, true, false, ◌&&◌}
+use mathlib.Core.Bool.{Bool, true, false}
 use mathlib.Core.List.{List}
 use Prim.Native.Nat.{ℕ, ◌+◌, ◌%◌, ◌≤◌, ◌<◌}
 use native.Mathlib.Nat.{mod-lt}
 use native.Mathlib.Numerals.{add-one}
 use native.Mathlib.Omega.{arith}
-use lib.Dec.{eqb, ltb}
+use lib.Dec.{eqb}
 use lib.ListN.{length, get_or, set, length-set, replicate, get_or-replicate}
 use lib.Seq.{get_or-set_same, get_or-set_other}
 use borrow.Author.Count.{below_more}
@@ -39,10 +39,10 @@ module _ (room : ℕ) (kinds keys : List ℕ) (want : ℕ) where
   -- record t, with the key q: the test is whether it is of the kind, and whether its key is one of those that have a chain
   module _ (t : ℕ) (last lower : List ℕ) (c : Chained room kinds keys want t last lower) (h : t < room) (q : ℕ) (e : q ≡ get_or keys t 0) where
     -- it is in no chain
-    pub chained_skip : (eqb (get_or kinds t 0) want && ltb q room) ≡ false → Chained room kinds keys want (t + 1) last lower
+    pub chained_skip : (get_or kinds t 0 ≡ want → q < room → ⊥) → Chained room kinds keys want (t + 1) last lower
     chained_skip n =
         let out : (k : ℕ) → k < room → keyed kinds keys want k t ≡ false
-        = λ k l. never (keyed kinds keys want k t) (λ y. let w = simp says at y in let f = simp says at n in omega (arith, f w.0)) in
+        = λ k l. never (keyed kinds keys want k t) (λ y. let w = simp says at y in n w.0 (omega (arith, w.1))) in
         record {
           fits = omega arith;
           last_room = c.last_room;
@@ -55,10 +55,9 @@ module _ (room : ℕ) (kinds keys : List ℕ) (want : ℕ) where
         }
 
     -- it comes to the end of the chain of its key
-    pub chained_store : (eqb (get_or kinds t 0) want && ltb q room) ≡ true → Chained room kinds keys want (t + 1) (set last q (t + 1)) (set lower t (get_or last q 0))
-    chained_store y =
-        let w = simp says at y in
-        let own : keyed kinds keys want q t ≡ true = simp says (w.0, sym e) in
+    pub chained_store : get_or kinds t 0 ≡ want → q < room → Chained room kinds keys want (t + 1) (set last q (t + 1)) (set lower t (get_or last q 0))
+    chained_store is below =
+        let own : keyed kinds keys want q t ≡ true = simp says (is, sym e) in
         let other : (k : ℕ) → (k ≡ q → ⊥) → keyed kinds keys want k t ≡ false
         = λ k n. never (keyed kinds keys want k t) (λ z. n (sym (simp says at z).1 ∙ sym e)) in
         record {
@@ -77,7 +76,7 @@ module _ (room : ℕ) (kinds keys : List ℕ) (want : ℕ) where
               (λ x.
               let rt : r ≡ t = omega arith in
               let kq : q ≡ k = e ∙ sym (ap (λ x. get_or keys x 0) rt) ∙ (simp says at z).1 in
-              rw (rt, sym kq) (get_or-set_same lower t (get_or last q 0) 0 (omega (arith, c.lower_room)) ∙ c.ends q w.1))
+              rw (rt, sym kq) (get_or-set_same lower t (get_or last q 0) 0 (omega (arith, c.lower_room)) ∙ c.ends q below))
               (λ x. get_or-set_other lower t r (get_or last q 0) 0 (λ p. omega arith) ∙ c.steps k r l x z)
               (le_or_lt t r);
         }

@@ -2,6 +2,8 @@
 use Rattle.std.specs.Prelude.{◌≡◌, List, ℕ, ◌-◌, ◌≤◌, ℤ, pos, length, get_or, take}
 use Rattle.meaning.specs.Document.{Doc}
 use Rattle.columns.specs.Judgeable.{Judgeable}
+use Rattle.columns.specs.declared.Columns.{Columns}
+use Rattle.columns.specs.declared.Records.{Records}
 
 -- a column of n entries, one for each record, and `other` past them
 pub record Lends {A : Type 0} (n : ℕ) (field : ℕ → A) (other : A) (column : List A) : Type 0 where
@@ -51,3 +53,50 @@ pub record Fronts (n : ℕ) (kinds vkinds names parents begins ends : List ℕ) 
   pub item : n ≤ length items
   pub doc : Doc
   pub whole : Whole doc (take (n - 0) kinds) (take (n - 0) vkinds) (take (n - 0) names) (take (n - 0) parents) (take (n - 0) begins) (take (n - 0) ends) (take (n - 0) values) (take (n - 0) items)
+
+-- the same of columns that are lent together
+abbrev pub TreeOf : Doc → Records → Type 0
+TreeOf doc r = Tree doc r.kind.now r.name.now r.parent.now
+
+abbrev pub ValuesOf : Doc → Records → Type 0
+ValuesOf doc r = Values doc r.kind.now r.vkind.now r.value.now
+
+abbrev pub PeriodsOf : Doc → Records → Type 0
+PeriodsOf doc r = Periods doc r.begin.now r.end.now
+
+abbrev pub NumbersOf : Doc → Records → Type 0
+NumbersOf doc r = Numbers doc r.kind.now r.parent.now r.item.now
+
+-- some document that can be judged has these kinds, names and parents
+abbrev pub HasTree : Records → Type 0
+HasTree r = (doc : Doc) × TreeOf doc r × Judgeable doc
+
+-- and these values
+abbrev pub HasValues : Records → Type 0
+HasValues r = (doc : Doc) × TreeOf doc r × ValuesOf doc r × Judgeable doc
+
+-- the first n entries of columns that are owned, lent together
+pub record FrontOf (n : ℕ) (c : Columns) (r : Records) : Type 0 where
+  pub kind : r.kind.now ≡ take n c.kind
+  pub vkind : r.vkind.now ≡ take n c.vkind
+  pub name : r.name.now ≡ take n c.name
+  pub parent : r.parent.now ≡ take n c.parent
+  pub begin : r.begin.now ≡ take n c.begin
+  pub end : r.end.now ≡ take n c.end
+  pub value : r.value.now ≡ take n c.value
+  pub item : r.item.now ≡ take n c.item
+
+-- all their entries
+pub record AllOf (c : Columns) (r : Records) : Type 0 where
+  pub kind : r.kind.now ≡ c.kind
+  pub vkind : r.vkind.now ≡ c.vkind
+  pub name : r.name.now ≡ c.name
+  pub parent : r.parent.now ≡ c.parent
+  pub begin : r.begin.now ≡ c.begin
+  pub end : r.end.now ≡ c.end
+  pub value : r.value.now ≡ c.value
+  pub item : r.item.now ≡ c.item
+
+-- all eight, of a document that can be judged
+abbrev pub WholeOf : Doc → Records → Type 0
+WholeOf doc r = Whole doc r.kind.now r.vkind.now r.name.now r.parent.now r.begin.now r.end.now r.value.now r.item.now

@@ -21,35 +21,24 @@ pub fn chain(kind: &[u8], key: &[u16], want: u8) -> Links
 {
     let mut last = [0u16; LIMIT];
     let mut lower = [0u16; LIMIT];
-    let mut i = 0;
-    while i < kind.len() {
+    for i in 0..kind.len() {
         let k = index(key[i]);
-        if (kind[i] == want) & (k < LIMIT) {
+        if kind[i] == want && k < LIMIT {
             lower[i] = last[k];
             last[k] = (i + 1) as u16;
         }
-        i += 1;
     }
     Links { last, lower }
 }
 
-// The key of an item number, one of LIMIT: numbers that differ seldom share one.
-fn bucket(number: u32) -> u16
-    ensures { result ≡ number % limit }
-{
-    (number % (LIMIT as u32)) as u16
-}
-
-// The keys of a column of item numbers. Cost: one pass over it.
+// The keys of a column of item numbers, each one of LIMIT: numbers that differ seldom share one. Cost: one pass over it.
 pub fn buckets(item: &[u32]) -> [u16; LIMIT]
     requires { length item.now ≤ limit }
     ensures { Grouped limit item.now result }
 {
     let mut key = [0u16; LIMIT];
-    let mut i = 0;
-    while i < item.len() {
-        key[i] = bucket(item[i]);
-        i += 1;
+    for (i, number) in item.iter().enumerate() {
+        key[i] = (*number % (LIMIT as u32)) as u16;
     }
     key
 }
@@ -62,6 +51,7 @@ pub fn namesake(kind: &[u8], item: &[u32], twin: &[u16], i: usize) -> usize
 {
     let number = item[i];
     let mut past_j = index(twin[i]);
+    // a while: it follows the links of the chain
     while 0 < past_j {
         if item[past_j - 1] == number {
             return past_j - 1;

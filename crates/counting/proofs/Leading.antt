@@ -16,7 +16,7 @@ use Rattle.day.proofs.Settling.{zeros, fresh}
 use Rattle.counting.specs.Number.{Fits, Fresh}
 use Rattle.counting.specs.Ready.{Ready}
 
-module _ (doc : Doc) (r : Rule) (start : ℕ) (next begins ends reps groups last lower : List ℕ) (s : Ready doc r start next begins ends reps groups last lower) where
+module _ {doc : Doc} {r : Rule} {start : ℕ} {next begins ends reps groups last lower : List ℕ} (s : Ready doc r start next begins ends reps groups last lower) where
   -- as many records as the column has entries
   sized : length begins ≡ doc.size
   sized = s.periods.begin.size

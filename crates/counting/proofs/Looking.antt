@@ -7,7 +7,7 @@ use Prim.Native.Nat.{ℕ, suc, ◌≤◌, ◌<◌}
 use native.Mathlib.Nat.{eq-or-lt_of_le}
 use native.Mathlib.Omega.{arith}
 use lib.Dec.{eqb}
-use Rattle.meaning.specs.declared.Found.TheVariants.{At, Nothing}
+use Rattle.std.specs.Prelude.{Some, None}
 use Rattle.meaning.specs.Walk.{any, first}
 use Rattle.meaning.proofs.Basics.{went, le_or_lt}
 use Rattle.meaning.proofs.Walks.{any_none, any-true, first-at, first-none}
@@ -49,7 +49,7 @@ module _ (n : ℕ) (chosen p : ℕ → Bool) (group : ℕ → ℕ) (bad : ℕ �
         none = λ u h. not_offending u (s.before u (omega arith) h);
       }
 
-  pub looked_end : (v : ℕ) (done : List ℕ) → Looked v done → n ≤ v → Nothing ≡ first (offending chosen p bad) 0 n
+  pub looked_end : (v : ℕ) (done : List ℕ) → Looked v done → n ≤ v → None ≡ first (offending chosen p bad) 0 n
   looked_end v done s h = sym (first-none _ 0 n (λ u a b. s.none u (omega arith)))
 
   -- two chosen records of one class are bad both or neither; record v was looked at
@@ -72,7 +72,7 @@ module _ (n : ℕ) (chosen p : ℕ → Bool) (group : ℕ → ℕ) (bad : ℕ �
         (λ e. let m : answer ≡ (p v && (not false && bad v)) = rw e at met.answers in sym m)
         (went (marked done (group v))))
 
-    pub looked_found : answer ≡ true → At v ≡ first (offending chosen p bad) 0 n
+    pub looked_found : answer ≡ true → Some v ≡ first (offending chosen p bad) 0 n
     looked_found y = sym (first-at _ v 0 n (omega arith) (omega arith) (answered ∙ y) (λ u a b. s.none u b))
 
     pub looked_step : answer ≡ false → (next : ℕ) → Next chosen n (suc v) next → Looked next after

@@ -9,13 +9,13 @@ use lib.Dec.{eqb}
 use borrow.Author.Tests.{eq-eqb, ne_eqb, ltb-false}
 use Rattle.meaning.specs.Walk.{any, count}
 use Rattle.meaning.proofs.Basics.{went, or_r}
-use Rattle.meaning.proofs.Walks.{None, any_none, any_same, count_same}
+use Rattle.meaning.proofs.Walks.{NonePass, any_none, any_same, count_same}
 use Rattle.meaning.proofs.Loops.{any_last}
 use Rattle.day.proofs.Single.{any-count, eqb_sym}
 use Rattle.day.proofs.Tallying.{count-last}
 
 -- where none passes, none is counted
-pub count_none : (f : ℕ → Bool) (n : ℕ) → None f 0 n → count f 0 n ≡ 0
+pub count_none : (f : ℕ → Bool) (n : ℕ) → NonePass f 0 n → count f 0 n ≡ 0
 count_none f n none = omega (arith, ltb-false 0 (count f 0 n) (sym (any-count f 0 n) ∙ any_none f 0 n none))
 
 -- x more, which is one more where it did not pass before

@@ -9,7 +9,7 @@ use native.Mathlib.Omega.{arith}
 use lib.IntN.{ℤ, pos}
 use lib.Signed.{le_z}
 use lib.Dec.{eqb, leb}
-use lib.ListN.{length, get_or}
+use lib.ListN.{get_or}
 use borrow.Author.Tests.{eqb-true, eq-eqb, le-leb}
 use Rattle.meaning.specs.declared.Rule.{Rule}
 use Rattle.meaning.specs.Walk.{any, count, first}
@@ -31,8 +31,12 @@ use Rattle.prepare.proofs.Valued.{counted-wants}
 use Rattle.groups.specs.Groups.{in_group}
 use Rattle.groups.proofs.Gathering.{group_under, under-group, row-version}
 use Rattle.day.proofs.Single.{outside-bounds}
-use Rattle.counting.specs.Number.{touches, number_in, breaks}
-use Rattle.counting.specs.Ready.{Ready, Terms}
+use Rattle.day.specs.declared.lent.Trail.{Trail}
+use Rattle.day.specs.declared.lent.Stretch.{Stretch}
+use Rattle.day.specs.Along.{during, size, there, stands}
+use Rattle.counting.specs.declared.Asked.{Asked}
+use Rattle.counting.specs.Number.{number_in, breaks}
+use Rattle.counting.specs.Ready.{ReadyAlong, Terms}
 use Rattle.counting.proofs.Numbering.{first-of_value}
 use Rattle.counting.proofs.Looking.{offending}
 
@@ -108,19 +112,19 @@ module _ (doc : Doc) (judgeable : Judgeable doc) (w : Window) where
 
     module _ (begins ends reps : List ℕ) (periods : Periods doc begins ends) (represents : Represents doc reps) where
       abbrev p : ℕ → Bool
-      p = touches begins ends w.from w.to
+      p = during begins ends w.from w.to
 
       abbrev rep : ℕ → ℕ
       rep f = get_or reps f 0
 
-      touches-meets : (v : ℕ) → is_version doc v ≡ true → p v ≡ meets doc w v
+      there-meets : (v : ℕ) → is_version doc v ≡ true → p v ≡ meets doc w v
       unfolding meets
-      touches-meets v e = rw (e, periods.begin.at v, periods.end.at v)
+      there-meets v e = rw (e, periods.begin.at v, periods.end.at v)
 
       group_is : (n : ℕ) → (λ f. in_group doc r n f && p f) ≡ taken doc (meets doc w) r n (eqb r.distinct 1)
       group_is n =
           fun_ext (λ f.
-          and_same (in_group doc r n f) (p f) (meets doc w f) (λ i. let u = group_under doc r n f i in touches-meets f (row-version doc r u.of f u.row))
+          and_same (in_group doc r n f) (p f) (meets doc w f) (λ i. let u = group_under doc r n f i in there-meets f (row-version doc r u.of f u.row))
           ∙ sym (under-is n f))
 
       -- what is counted by values or by field versions is what the meaning counts
@@ -155,7 +159,7 @@ module _ (doc : Doc) (judgeable : Judgeable doc) (w : Window) where
           → offending (selected doc r) p (λ u. breaks p doc.size rep distinct low high (in_group doc r (number_of doc u))) v ≡ offends_in doc (meets doc w) w q r v
       unfolding offends_in by_kind breaks_in present
       offends-is q distinct low high terms v =
-          behind (selected doc r v) (p v) (meets doc w v) _ _ (λ s. touches-meets v (selected-version doc r v s)) (breaks-is distinct low high terms v)
+          behind (selected doc r v) (p v) (meets doc w v) _ _ (λ s. there-meets v (selected-version doc r v s)) (breaks-is distinct low high terms v)
           ∙ sym (ap (breaks_in doc (meets doc w) w q r v) terms.kind)
         where
           behind : (a x y k l : Bool) → (a ≡ true → x ≡ y) → k ≡ l → a && (x && k) ≡ (a && y && l)
@@ -163,24 +167,22 @@ module _ (doc : Doc) (judgeable : Judgeable doc) (w : Window) where
           behind false x y k l h g = refl
 
 -- the item number of version v is out of range, by the columns
-abbrev pub bad_in : List ℕ → List ℕ → List ℕ → Bool → ℕ → ℕ → ℕ → ℕ → Doc → Rule → ℕ → Bool
-bad_in begins ends reps distinct low high from to doc r v = breaks (touches begins ends from to) (length begins) (λ f. get_or reps f 0) distinct low high (in_group doc r (number_of doc v))
+abbrev pub bad_in : Stretch → Asked → Doc → Rule → ℕ → Bool
+bad_in s a doc r v = breaks (there s) (size s) (stands s) a.distinct a.low a.high (in_group doc r (number_of doc v))
 
-module _ (doc : Doc) (r : Rule) (start : ℕ) (next begins ends reps groups last lower : List ℕ) (s : Ready doc r start next begins ends reps groups last lower)
-    (distinct : Bool) (low high from to : ℕ) where
+module _ (doc : Doc) (r : Rule) (t : Trail) (s : Stretch) (groups : List ℕ) (own : ReadyAlong doc r t s groups) (a : Asked) where
   -- versions of one class are of one item number
-  pub alike : (u v : ℕ) → selected doc r u ≡ true → selected doc r v ≡ true → get_or groups u 0 ≡ get_or groups v 0
-      → bad_in begins ends reps distinct low high from to doc r u ≡ bad_in begins ends reps distinct low high from to doc r v
-  alike u v a b e =
+  pub alike : (u v : ℕ) → selected doc r u ≡ true → selected doc r v ≡ true → get_or groups u 0 ≡ get_or groups v 0 → bad_in s a doc r u ≡ bad_in s a doc r v
+  alike u v i j e =
       let n = eqb-true (number_of doc u) (number_of doc v)
-      (s.classes.same u v (selected-version doc r u a) (selected-version doc r v b) ∙ eq-eqb (get_or groups u 0) (get_or groups v 0) e) in
-      ap (λ k. breaks (touches begins ends from to) (length begins) (λ f. get_or reps f 0) distinct low high (in_group doc r k)) n
+      (own.classes.same u v (selected-version doc r u i) (selected-version doc r v j) ∙ eq-eqb (get_or groups u 0) (get_or groups v 0) e) in
+      ap (λ k. breaks (there s) (size s) (stands s) a.distinct a.low a.high (in_group doc r k)) n
 
   -- the first version that is selected, present and out of range is the first that offends
-  pub answers : (q : Rule) (w : Window) → Terms r (shortened w) distinct low high → w.from ≡ from → w.to ≡ to
-      → first (offending (selected doc r) (touches begins ends from to) (bad_in begins ends reps distinct low high from to doc r)) 0 (length begins) ≡ first (offends_in doc (meets doc w) w q r) 0 doc.size
-  answers q w terms a b =
-      ap (λ n. first (offending (selected doc r) (touches begins ends from to) (λ v. breaks (touches begins ends from to) n (λ f. get_or reps f 0) distinct low high (in_group doc r (number_of doc v)))) 0 n)
-      s.periods.begin.size
-      ∙ rw (sym a, sym b)
-      (first-same _ _ 0 doc.size (λ v i j. offends-is doc s.judgeable w r s.windowed terms.kind begins ends reps s.periods s.represents q distinct low high terms v))
+  pub answers : (q : Rule) (w : Window) → Terms r (shortened w) a.distinct a.low a.high → w.from ≡ s.from → w.to ≡ s.to
+      → first (offending (selected doc r) (there s) (bad_in s a doc r)) 0 (size s) ≡ first (offends_in doc (meets doc w) w q r) 0 doc.size
+  answers q w terms e i =
+      ap (λ n. first (offending (selected doc r) (there s) (λ v. breaks (there s) n (stands s) a.distinct a.low a.high (in_group doc r (number_of doc v)))) 0 n)
+      own.periods.begin.size
+      ∙ rw (sym e, sym i)
+      (first-same _ _ 0 doc.size (λ v i j. offends-is doc own.judgeable w r own.windowed terms.kind _ _ _ own.periods own.represents q a.distinct a.low a.high terms v))

@@ -1,15 +1,11 @@
 -- One item number in a window: how many of its field versions, or of their values, are present, when that is out of range, and what a look at
 -- one of its versions leaves.
-use Rattle.std.specs.Prelude.{◌≡◌, Bool, ◌&&◌, ◌||◌, not, cond, List, ℕ, ◌≤◌, ◌<◌, ltb, eqb, length, get_or}
+use Rattle.std.specs.Prelude.{◌≡◌, Bool, ◌&&◌, ◌||◌, not, cond, List, ℕ, ◌≤◌, ◌<◌, eqb, length, get_or}
 use Rattle.meaning.specs.Walk.{any, count}
 use Rattle.meaning.specs.Block.{limit}
 use Rattle.marks.specs.Marks.{marked}
 use Rattle.day.specs.Ready.{Clear}
 use Rattle.day.specs.Row.{outside}
-
--- the period of record i shares a day with the window from `from` up to, not including, `to`
-abbrev pub touches : List ℕ → List ℕ → ℕ → ℕ → ℕ → Bool
-touches begins ends from to i = ltb (get_or begins i 0) to && ltb from (get_or ends i 0)
 
 -- n entries or more in each list that a walk along field versions reads, and representatives that have a place in `seen`
 pub record Room (n : ℕ) (ends reps lower seen : List ℕ) : Type 0 where

@@ -7,72 +7,52 @@ ghost use Rattle.meaning.specs.Walk.{first};
 ghost use Rattle.meaning.specs.Document.{Doc};
 ghost use Rattle.meaning.specs.Window.{Window, shortened, meets, offends_in};
 ghost use Rattle.counting.specs.Number.{Fresh};
-ghost use Rattle.counting.specs.Ready.{Ready, Terms};
+ghost use Rattle.counting.specs.Ready.{ReadyAlong, Terms};
 
 use columns::LIMIT;
-use meaning::Found;
+use day::lent::{Stretch, Trail};
 use numbers::index;
 
 mod item; // item.rt: one item number in a window
 
-// The lowest version that offends in the window from `from` up to, not including, `to`; `done` marks the classes that were counted, and `seen` has
-// a token for each value, none before.
+// What a cardinality asks of an item number in a window: whether its values are counted, not its field versions, and the bounds of their number.
+#[derive(Clone, Copy)]
+pub struct Asked {
+    pub distinct: bool,
+    pub low: usize,
+    pub high: usize,
+}
+
+// The lowest version that offends in a window; `done` marks the classes that were counted, and `seen` has a token for each value, none before.
 // Cost: a look for each selected version, and a look for each field version of the item numbers of which one is present.
 fn first_counted(
-    start: usize,
-    next: &[u16],
-    begin: &[u16],
-    end: &[u16],
-    rep: &[u16],
+    trail: Trail,
+    stretch: Stretch,
     group: &[u16],
-    last: &[u16],
-    lower: &[u16],
-    distinct: bool,
-    low: usize,
-    high: usize,
-    from: usize,
-    to: usize,
+    asked: Asked,
     done: &mut [u8],
     seen: &mut [u16],
-) -> Found
-    requires { (doc : Doc) × (r : Rule) × Ready doc r start next.now begin.now end.now rep.now group.now last.now lower.now × Fresh doc.size done.old seen.old }
-    ensures { (doc : Doc) (q r : Rule) (w : Window) → Ready doc r start next.now begin.now end.now rep.now group.now last.now lower.now → Terms r (shortened w) distinct low high → w.from ≡ from → w.to ≡ to → result ≡ first (offends_in doc (meets doc w) w q r) 0 doc.size }
+) -> Option<usize>
+    requires { (doc : Doc) × (r : Rule) × ReadyAlong doc r trail stretch group.now × Fresh doc.size done.old seen.old }
+    ensures { (doc : Doc) (q r : Rule) (w : Window) → ReadyAlong doc r trail.entry stretch.entry group.now → Terms r (shortened w) asked.distinct asked.low asked.high → w.from ≡ stretch.entry.from → w.to ≡ stretch.entry.to → result ≡ first (offends_in doc (meets doc w) w q r) 0 doc.size }
 {
-    let mut v = start;
-    while v < begin.len() {
-        if item::item_breaks(
-            begin, end, rep, group, last, lower, distinct, low, high, from, to, v, done, seen,
-        ) {
-            return Found::At(v);
+    let mut v = trail.start;
+    // a while: it follows links
+    while v < stretch.begin.len() {
+        if item::item_breaks(trail, stretch, group, asked, v, done, seen) {
+            return Some(v);
         }
-        v = index(next[v]);
+        v = index(trail.next[v]);
     }
-    Found::Nothing
+    None
 }
 
 // The same, with marks and tokens of its own. Cost: a clear entry in both for each record, and that of the walk.
-pub fn counting_in<'a>(
-    start: usize,
-    next: &'a [u16],
-    begin: &[u16],
-    end: &[u16],
-    rep: &[u16],
-    group: &[u16],
-    last: &'a [u16],
-    lower: &'a [u16],
-    distinct: bool,
-    low: usize,
-    high: usize,
-    from: usize,
-    to: usize,
-) -> Found
-    requires { (doc : Doc) × (r : Rule) × Ready doc r start next.now begin.now end.now rep.now group.now last.now lower.now }
-    ensures { (doc : Doc) (q r : Rule) (w : Window) → Ready doc r start next.now begin.now end.now rep.now group.now last.now lower.now → Terms r (shortened w) distinct low high → w.from ≡ from → w.to ≡ to → result ≡ first (offends_in doc (meets doc w) w q r) 0 doc.size }
+pub fn counting_in(trail: Trail, stretch: Stretch, group: &[u16], asked: Asked) -> Option<usize>
+    requires { (doc : Doc) × (r : Rule) × ReadyAlong doc r trail stretch group.now }
+    ensures { (doc : Doc) (q r : Rule) (w : Window) → ReadyAlong doc r trail.entry stretch.entry group.now → Terms r (shortened w) asked.distinct asked.low asked.high → w.from ≡ stretch.entry.from → w.to ≡ stretch.entry.to → result ≡ first (offends_in doc (meets doc w) w q r) 0 doc.size }
 {
     let mut done = [0u8; LIMIT];
     let mut seen = [0u16; LIMIT];
-    first_counted(
-        start, next, begin, end, rep, group, last, lower, distinct, low, high, from, to, &mut done,
-        &mut seen,
-    )
+    first_counted(trail, stretch, group, asked, &mut done, &mut seen)
 }

@@ -9,21 +9,11 @@ use lib.Dec.{eqb}
 use borrow.Author.Tests.{eqb-false}
 use Rattle.meaning.specs.Walk.{count}
 use Rattle.meaning.proofs.Basics.{went, or_l, or_r}
-use Rattle.meaning.proofs.Walks.{None}
+use Rattle.meaning.proofs.Walks.{NonePass}
 use Rattle.meaning.proofs.Picks.{count-or, count-one}
 
--- no more pass than there are
-pub count_most : (f : ℕ → Bool) (i n : ℕ) → count f i n ≤ n
-unfolding count
-count_most f i zero = omega arith
-count_most f i (suc n) = step (f i) (count f (suc i) n) n (count_most f (suc i) n)
-  where
-    step : (a : Bool) (x y : ℕ) → x ≤ y → cond a (suc x) x ≤ suc y
-    step true x y h = omega arith
-    step false x y h = omega arith
-
 -- where none passes there is nothing to count
-pub count_none : (f : ℕ → Bool) (i n : ℕ) → None f i n → count f i n ≡ 0
+pub count_none : (f : ℕ → Bool) (i n : ℕ) → NonePass f i n → count f i n ≡ 0
 unfolding count
 count_none f i zero h = refl
 count_none f i (suc n) h = rw (h i (omega arith) (omega arith)) (count_none f (suc i) n (λ k a b. h k (omega arith) (omega arith)))

@@ -14,7 +14,8 @@ use Rattle.meaning.proofs.Basics.{went, never, clear, both, and_l, and_r, le_or_
 use Rattle.meaning.proofs.Says.{says}
 use Rattle.crowds.specs.Crowds.{at, keyed_at, present, ByMany, Ordered}
 use Rattle.crowds.specs.Tallies.{by, Cleared, Falls, Ended}
-use Rattle.crowds.proofs.Counts.{count_most, count_none, count-mono, count-strict, count-one_more}
+use Rattle.passes.proofs.Crowding.{count_most}
+use Rattle.crowds.proofs.Counts.{count_none, count-mono, count-strict, count-one_more}
 
 module _ (opens closes keys lo hi : List ℕ) (n most : ℕ) (o : Ordered opens lo keys n) (c : Ordered closes hi keys n) where
   -- record y is among the first i that open
@@ -171,9 +172,10 @@ module _ (opens closes keys lo hi : List ℕ) (n most : ℕ) (o : Ordered opens 
           }
 
       -- x makes no crowd
-      pub counted-more : (k : ℕ) → k ≡ at keys x → ltb (at lo x) (at hi x) && ltb k n ≡ true → k < length tally → at tally k < most → Counted (i + 1) j (set tally k (at tally k + 1))
-      counted-more k ek e room few =
+      pub counted-more : (k : ℕ) → k ≡ at keys x → ltb (at lo x) (at hi x) && ltb k n ≡ true → n ≤ length tally → at tally k < most → Counted (i + 1) j (set tally k (at tally k + 1))
+      counted-more k ek e wide few =
           let g = simp says at e in
+          let room : k < length tally = omega (arith, g.1) in
           record {
             enough = λ d h. ⊎_elim
                 (λ z.

@@ -1,45 +1,27 @@
--- A record that stands in an order, tallies that are cleared, and how a stretch of ends goes on.
+-- Tallies that are cleared, the room they have, and how a stretch of ends goes on.
 use mathlib.Core.Path.{◌≡◌, sym}
 use mathlib.Core.Bool.{true, ◌&&◌}
 use mathlib.Core.Logic.{⊎_elim}
-use mathlib.Core.List.{List}
+use mathlib.Core.List.{List, ◌++◌}
 use Prim.Native.Nat.{ℕ, ◌+◌, ◌≤◌, ◌<◌}
 use native.Mathlib.Omega.{arith}
 use lib.Dec.{eqb, ltb}
-use lib.ListN.{length, set}
+use lib.ListN.{length, set, replicate}
 use lib.Seq.{get_or-set_same, get_or-set_other}
 use borrow.Author.Count.{below_more}
+use Rattle.passes.proofs.Clearing.{cleared}
 use Rattle.meaning.proofs.Basics.{went}
 use Rattle.meaning.proofs.Says.{says}
-use Rattle.crowds.specs.Crowds.{at, Ordered}
+use Rattle.crowds.specs.Crowds.{at}
 use Rattle.crowds.specs.Tallies.{by, Room, Cleared, Ended}
 
--- a record of an order is one of the n
-pub record_fits : {order column keys : List ℕ} {n : ℕ} → Ordered order column keys n → (i : ℕ) → i < length order → {x : ℕ} → x ≡ at order i → x < n
-record_fits o i h e = rw e (o.covered i h)
-
--- clear tallies: none, one more, and as many as are asked for
-pub cleared_none : (tally : List ℕ) → Cleared tally 0
-cleared_none tally = record { zero_at = λ k h. absurd (omega arith) }
-
-pub cleared_more : (tally : List ℕ) (k : ℕ) → Cleared tally k → k < length tally → Cleared (set tally k 0) (k + 1)
-cleared_more tally k s h =
-    record {
-      zero_at = below_more (λ c. at (set tally k 0) c ≡ 0) k
-          (λ c l. rw (get_or-set_other tally k c 0 0 (λ e. omega arith)) (s.zero_at c l))
-          (get_or-set_same tally k 0 0 h);
-    }
-
-pub cleared_all : (tally : List ℕ) (n k : ℕ) → Cleared tally k → n ≤ k → Cleared tally n
-cleared_all tally n k s h = record { zero_at = λ c l. s.zero_at c (omega arith) }
+-- tallies whose first n were filled with 0
+pub cleared_tally : (n : ℕ) (filled rest : List ℕ) → filled ≡ replicate n 0 → Cleared (filled ++ rest) n
+cleared_tally n filled rest e = record { zero_at = (cleared n filled rest e).zeros }
 
 -- tallies of the same length have the same room
 pub room-kept : {keys lo hi tally tally' : List ℕ} {n : ℕ} → Room keys lo hi tally n → length tally' ≡ length tally → Room keys lo hi tally' n
 room-kept r e = record { in_keys = r.in_keys; in_lo = r.in_lo; in_hi = r.in_hi; in_tally = omega (arith, r.in_tally) }
-
--- a key that passed the second of two tests is below n
-pub key_fits : (a b k n : ℕ) → ltb a b && ltb k n ≡ true → k < n
-key_fits a b k n e = (simp says at e).1
 
 module _ (closes keys lo hi : List ℕ) (n until j : ℕ) (tally : List ℕ) where
   -- no end taken
@@ -67,10 +49,11 @@ module _ (closes keys lo hi : List ℕ) (n until j : ℕ) (tally : List ℕ) whe
         }
 
     -- it is taken off the tally of its key, by one or not at all
-    pub ended-more : (k m : ℕ) → k ≡ at keys y → ltb (at lo y) (at hi y) && ltb k n ≡ true → k < length now → (at now k ≤ m + 1) × (m ≤ at now k) →
+    pub ended-more : (k m : ℕ) → k ≡ at keys y → ltb (at lo y) (at hi y) && ltb k n ≡ true → n ≤ length now → (at now k ≤ m + 1) × (m ≤ at now k) →
         Ended closes keys lo hi n until j (r + 1) tally (set now k m)
-    ended-more k m ek some room fall =
+    ended-more k m ek some wide fall =
         let w = simp says at some in
+        let room : k < length now = omega (arith, w.1) in
         let ek' : by closes keys r ≡ k = sym (rw ey at ek) in
         let some' : by closes lo r < by closes hi r = rw ey at w.0 in
         let early' : by closes hi r ≤ until = rw ey at early in

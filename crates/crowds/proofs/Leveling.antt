@@ -14,7 +14,8 @@ use Rattle.meaning.proofs.Says.{says}
 use Rattle.crowds.specs.Crowds.{at, keyed_at, present, Ordered}
 use Rattle.crowds.specs.Tallies.{by, Cleared}
 use Rattle.crowds.specs.Levels.{Levels, Takes, Joins, Joined, Leaves, Left}
-use Rattle.crowds.proofs.Counts.{count_most, count-mono, count-strict, count-one_more}
+use Rattle.passes.proofs.Crowding.{count_most}
+use Rattle.crowds.proofs.Counts.{count-mono, count-strict, count-one_more}
 
 -- what stands from position i of an order on lies no earlier than what stands at i
 pub from-there : {order column keys : List ℕ} {n : ℕ} → Ordered order column keys n → (i u : ℕ) → i ≤ u → u < length order → by order column i ≤ by order column u

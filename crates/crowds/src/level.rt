@@ -5,8 +5,8 @@ ghost use Rattle.crowds.specs.Crowds.{at, Ordered};
 ghost use Rattle.crowds.specs.Tallies.{Room, Cleared};
 ghost use Rattle.crowds.specs.Levels.{Levels, First, Joins, Joined, Leaves, Left};
 
-use crate::{clear, less};
 use numbers::index;
+use passes::Spans;
 
 // Whether the record at position i of the order, if there is one, begins before place h.
 fn comes_first(order: &[u16], lo: &[u16], i: usize, h: u16) -> bool
@@ -20,22 +20,13 @@ fn comes_first(order: &[u16], lo: &[u16], i: usize, h: u16) -> bool
 }
 
 // Adds a record that begins to the tally of its key; where that comes to `least`, the record is its opener.
-fn join(
-    met: u16,
-    key: &[u16],
-    lo: &[u16],
-    hi: &[u16],
-    n: usize,
-    least: usize,
-    tally: &mut [u16],
-    opener: &mut [u16],
-)
-    requires { Room key.now lo.now hi.now tally.old n × (n ≤ length opener.old) × (n ≤ limit) × Joins key.now lo.now hi.now n met tally.old }
-    ensures { Joined key.now lo.now hi.now least met tally.old opener.old tally.new opener.new }
+fn join(spans: Spans, n: usize, met: u16, least: usize, tally: &mut [u16], opener: &mut [u16])
+    requires { Room spans.key.now spans.lo.now spans.hi.now tally.old n × (n ≤ length opener.old) × (n ≤ limit) × Joins spans.key.now spans.lo.now spans.hi.now n met tally.old }
+    ensures { Joined spans.entry.key.now spans.entry.lo.now spans.entry.hi.now least met tally.old opener.old tally.new opener.new }
 {
     let x = index(met);
-    let k = index(key[x]);
-    if (hi[x] <= lo[x]) | (n <= k) {
+    let k = index(spans.key[x]);
+    if (spans.hi[x] <= spans.lo[x]) | (n <= k) {
         return;
     }
     let t = tally[k];
@@ -47,27 +38,25 @@ fn join(
 
 // Takes a record that ends off the tally of its key; where that falls below `least`, its opener is told the place.
 fn leave(
-    met: u16,
-    key: &[u16],
-    lo: &[u16],
-    hi: &[u16],
+    spans: Spans,
     n: usize,
+    met: u16,
     least: usize,
     tally: &mut [u16],
     opener: &[u16],
     until: &mut [u16],
 )
-    requires { Room key.now lo.now hi.now tally.old n × (n ≤ length opener.now) × (n ≤ length until.old) × Leaves key.now n least met tally.old opener.now }
-    ensures { Left key.now lo.now hi.now n least met tally.old opener.now until.old tally.new until.new }
+    requires { Room spans.key.now spans.lo.now spans.hi.now tally.old n × (n ≤ length opener.now) × (n ≤ length until.old) × Leaves spans.key.now n least met tally.old opener.now }
+    ensures { Left spans.entry.key.now spans.entry.lo.now spans.entry.hi.now n least met tally.old opener.now until.old tally.new until.new }
 {
     let y = index(met);
-    let k = index(key[y]);
-    let h = hi[y];
-    if (h <= lo[y]) | (n <= k) {
+    let k = index(spans.key[y]);
+    let h = spans.hi[y];
+    if (h <= spans.lo[y]) | (n <= k) {
         return;
     }
     let t = tally[k];
-    tally[k] = less(t);
+    tally[k] = t.saturating_sub(1);
     if index(t) == least {
         until[index(opener[k])] = h;
     }
@@ -78,28 +67,27 @@ fn leave(
 fn walk(
     opens: &[u16],
     closes: &[u16],
-    key: &[u16],
-    lo: &[u16],
-    hi: &[u16],
+    spans: Spans,
     n: usize,
     least: usize,
     tally: &mut [u16],
     opener: &mut [u16],
     until: &mut [u16],
 )
-    requires { Ordered opens.now lo.now key.now n × Ordered closes.now hi.now key.now n × Room key.now lo.now hi.now tally.old n × (n ≤ length opener.old) × (n ≤ length until.old) × (n ≤ limit) × (1 ≤ least) × Cleared tally.old n × Cleared until.old n }
-    ensures { Levels key.now lo.now hi.now n least until.new }
+    requires { Ordered opens.now spans.lo.now spans.key.now n × Ordered closes.now spans.hi.now spans.key.now n × Room spans.key.now spans.lo.now spans.hi.now tally.old n × (n ≤ length opener.old) × (n ≤ length until.old) × (n ≤ limit) × (1 ≤ least) × Cleared tally.old n × Cleared until.old n }
+    ensures { Levels spans.entry.key.now spans.entry.lo.now spans.entry.hi.now n least until.new }
 {
     let mut i: usize = 0;
     let mut j: usize = 0;
+    // a while: i and j move by turns
     while j < closes.len() {
         let y = closes[j];
-        let h = hi[index(y)];
-        if comes_first(opens, lo, i, h) {
-            join(opens[i], key, lo, hi, n, least, tally, opener);
+        let h = spans.hi[index(y)];
+        if comes_first(opens, spans.lo, i, h) {
+            join(spans, n, opens[i], least, tally, opener);
             i += 1;
         } else {
-            leave(y, key, lo, hi, n, least, tally, opener, until);
+            leave(spans, n, y, least, tally, opener, until);
             j += 1;
         }
     }
@@ -112,18 +100,16 @@ fn walk(
 pub fn level(
     opens: &[u16],
     closes: &[u16],
-    key: &[u16],
-    lo: &[u16],
-    hi: &[u16],
+    spans: Spans,
     n: usize,
     least: usize,
     tally: &mut [u16],
     opener: &mut [u16],
     until: &mut [u16],
 )
-    requires { Ordered opens.now lo.now key.now n × Ordered closes.now hi.now key.now n × Room key.now lo.now hi.now tally.old n × (n ≤ length opener.old) × (n ≤ length until.old) × (n ≤ limit) × (1 ≤ least) × Cleared until.old n }
-    ensures { Levels key.now lo.now hi.now n least until.new }
+    requires { Ordered opens.now spans.lo.now spans.key.now n × Ordered closes.now spans.hi.now spans.key.now n × Room spans.key.now spans.lo.now spans.hi.now tally.old n × (n ≤ length opener.old) × (n ≤ length until.old) × (n ≤ limit) × (1 ≤ least) × Cleared until.old n }
+    ensures { Levels spans.entry.key.now spans.entry.lo.now spans.entry.hi.now n least until.new }
 {
-    clear(tally, n);
-    walk(opens, closes, key, lo, hi, n, least, tally, opener, until);
+    tally[..n].fill(0);
+    walk(opens, closes, spans, n, least, tally, opener, until);
 }

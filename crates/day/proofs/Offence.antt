@@ -6,12 +6,11 @@ use mathlib.Core.List.{List}
 use Prim.Native.Nat.{ℕ, zero, suc, ◌<◌}
 use native.Mathlib.Omega.{arith}
 use lib.IntN.{pos}
-use lib.Dec.{eqb, ltb}
-use lib.ListN.{length, get_or}
+use lib.Dec.{eqb, leb, ltb}
+use lib.ListN.{get_or}
 use borrow.Author.Tests.{eqb-true, eqb-false, eq-eqb, ne_eqb, ltb-true, lt-ltb}
-use Rattle.meaning.specs.declared.Found.{Found}
 use Rattle.meaning.specs.declared.Rule.{Rule}
-use Rattle.meaning.specs.Walk.{any, count, first}
+use Rattle.meaning.specs.Walk.{any, count, first, Found}
 use Rattle.meaning.specs.Document.{Doc, is_version}
 use Rattle.meaning.specs.Rules.{by_kind, is_key, is_reference, is_sequenced}
 use Rattle.meaning.specs.Select.{selected, field_of, valued, is_nil, is_number, same_value, within, present, gives, has_nil, has}
@@ -25,9 +24,13 @@ use Rattle.values.specs.Represents.{Represents}
 use Rattle.values.proofs.Equals.{known_same, nil_unlike}
 use Rattle.prepare.specs.Spoiling.{spoils, AsideOn}
 use Rattle.prepare.specs.Rows.{wants_by, wants, in_row}
-use Rattle.day.specs.Ready.{counted, distinct, referring, TermsBy, Terms, Ready}
+use Rattle.day.specs.Ready.{counted, distinct, referring, TermsBy, Terms}
 use Rattle.day.specs.Settled.{Posed}
-use Rattle.day.specs.Row.{lasts, number, only, outside, wrong, keeps, row_breaks}
+use Rattle.day.specs.Row.{number, only, outside, wrong, keeps, row_breaks}
+use Rattle.day.specs.Along.{during, size, there, stands, ReadyAlong}
+use Rattle.day.specs.declared.lent.Trail.{Trail}
+use Rattle.day.specs.declared.lent.Stretch.{Stretch}
+use Rattle.day.specs.declared.terms.Bounds.{Bounds}
 use Rattle.day.specs.Table.{holder, seen_below, row_offends}
 use Rattle.day.proofs.Single.{One, one, any-count, eqb_sym, outside-one, outside-most, outside-within}
 
@@ -39,22 +42,23 @@ last_out false true false = refl
 last_out false false true = refl
 last_out false false false = refl
 
-module _ (doc : Doc) (begins ends reps : List ℕ) (periods : Periods doc begins ends) (represents : Represents doc reps) (d : ℕ) where
+module _ (doc : Doc) (begins ends reps : List ℕ) (periods : Periods doc begins ends) (represents : Represents doc reps) (d to : ℕ)
+    (on_day : (v : ℕ) → is_version doc v ≡ true → ltb (doc.begin v) to ≡ leb (doc.begin v) d) where
   abbrev p : ℕ → Bool
-  p = lasts begins ends d
+  p = during begins ends d to
 
   abbrev rep : ℕ → ℕ
   rep f = get_or reps f 0
 
-  lasts-alive : (v : ℕ) → is_version doc v ≡ true → p v ≡ alive doc d v
+  there-alive : (v : ℕ) → is_version doc v ≡ true → p v ≡ alive doc d v
   unfolding alive
-  lasts-alive v e = rw (e, periods.begin.at v, periods.end.at v)
+  there-alive v e = rw (e, periods.begin.at v, periods.end.at v, on_day v e)
 
   module _ (r : Rule) where
     -- the present ones of a row are the present field versions that the rule wants
     row_is : (v : ℕ) → selected doc r v ≡ true → (f : ℕ) → in_row doc r v f && p f ≡ (field_of doc r v f && alive doc d f && wants doc r f)
     unfolding in_row
-    row_is v s f = rw s (swap (field_of doc r v f) (wants doc r f) (p f) (alive doc d f) (λ y. lasts-alive f (field_version doc r v f s y)))
+    row_is v s f = rw s (swap (field_of doc r v f) (wants doc r f) (p f) (alive doc d f) (λ y. there-alive f (field_version doc r v f s y)))
       where
         swap : (a b x y : Bool) → (a ≡ true → x ≡ y) → a && b && x ≡ (a && y && b)
         swap true b x y h = ap (λ z. b && z) (h refl) ∙ and_comm b y
@@ -96,7 +100,7 @@ module _ (doc : Doc) (begins ends reps : List ℕ) (periods : Periods doc begins
 
     holds-is : (y u : ℕ) → holds y u ≡ (present doc (alive doc d) q u && eqb (values doc (alive doc d) q u) 1 && any (λ g. gives doc (alive doc d) q u g && eqb (rep g) y) 0 doc.size)
     unfolding holder present
-    holds-is y u = regroup (selected doc q u) (p u) (alive doc d u) _ _ _ (λ s. lasts-alive u (selected-version doc q u s)) (λ s. only-is q w u s (λ x. eqb x y))
+    holds-is y u = regroup (selected doc q u) (p u) (alive doc d u) _ _ _ (λ s. there-alive u (selected-version doc q u s)) (λ s. only-is q w u s (λ x. eqb x y))
       where
         regroup : (a x y k l m : Bool) → (a ≡ true → x ≡ y) → (a ≡ true → k ≡ (l && m)) → a && (x && k) ≡ (a && y && l && m)
         regroup true x y k l m h g = ap₂ ◌&&◌ (h refl) (g refl) ∙ sym (and_assoc y l m)
@@ -272,7 +276,7 @@ module _ (doc : Doc) (begins ends reps : List ℕ) (periods : Periods doc begins
         → offends doc (alive doc d) q r v ≡ (row_offends p doc.size rep (selected doc r) (in_row doc r) mode old low high v || spoils doc (alive doc d) r v)
     unfolding row_offends offends present spoils Terms
     offends-told terms v =
-        behind (selected doc r v) (p v) (alive doc d v) _ _ (is_key r || is_reference r) (has_nil doc (alive doc d) r v) (λ s. lasts-alive v (selected-version doc r v s)) (λ s. breaks-told v s r.kind refl terms)
+        behind (selected doc r v) (p v) (alive doc d v) _ _ (is_key r || is_reference r) (has_nil doc (alive doc d) r v) (λ s. there-alive v (selected-version doc r v s)) (λ s. breaks-told v s r.kind refl terms)
       where
         spread : (y k n h : Bool) → y && (k || (n && h)) ≡ ((y && k) || (n && (y && h)))
         spread true k n h = refl
@@ -283,38 +287,38 @@ module _ (doc : Doc) (begins ends reps : List ℕ) (periods : Periods doc begins
         behind false x y l k n h f g = sym (and-false n)
 
 -- the lists of a rule, and of the rule that it refers to
-module _ (start : ℕ) (next last lower : List ℕ) (start' : ℕ) (next' last' lower' : List ℕ) (begins ends reps : List ℕ) (d mode low high : ℕ) where
+module _ (own held : Trail) (s : Stretch) (b : Bounds) where
   -- the first row that offends, by these marks, is the first version that does, nils aside
   abbrev Answers : List ℕ → Type 0
   Answers marks =
-      (doc : Doc) (q r : Rule) → Posed doc q r start next last lower start' next' last' lower' begins ends reps mode low high → (x : Found)
-      → x ≡ first (row_offends (lasts begins ends d) (length begins) (λ f. get_or reps f 0) (selected doc r) (in_row doc r) mode (marked marks) low high) 0 (length begins)
-      → AsideOn doc (alive doc d) q r x
+      (doc : Doc) (q r : Rule) → Posed doc q r own held s b → (x : Found)
+      → x ≡ first (row_offends (there s) (size s) (stands s) (selected doc r) (in_row doc r) b.mode (marked marks) b.low b.high) 0 (size s)
+      → AsideOn doc (alive doc s.from) q r x
 
   -- the marks tell the only values of the rule referred to
-  pub answers-referring : mode ≡ referring → (marks marks' : List ℕ) → marks ≡ marks'
-      → ((doc : Doc) (q : Rule) → Ready doc q start' next' last' lower' begins ends reps → (y : ℕ)
-      → marked marks' y ≡ any (holder (lasts begins ends d) (length begins) (λ f. get_or reps f 0) (selected doc q) (in_row doc q) y) 0 (length begins))
+  pub answers-referring : b.mode ≡ referring → (marks marks' : List ℕ) → marks ≡ marks'
+      → ((doc : Doc) (q : Rule) → ReadyAlong doc q held s → (y : ℕ)
+      → marked marks' y ≡ any (holder (there s) (size s) (stands s) (selected doc q) (in_row doc q) y) 0 (size s))
       → Answers marks
-  answers-referring m marks marks' e holders doc q r s x found =
-      let n = s.ready.periods.begin.size in
+  answers-referring m marks marks' e holders doc q r p x found =
+      let n = p.ready.periods.begin.size in
       record {
         test = _;
         lowest = rw n at found;
-        told = offends-told doc begins ends reps s.ready.periods s.ready.represents d q r (λ k. (s.referred k).valued_only) s.sequenced mode low high (marked marks)
+        told = offends-told doc _ _ _ p.ready.periods p.ready.represents s.from s.to p.on_day q r (λ k. (p.referred k).valued_only) p.sequenced b.mode b.low b.high (marked marks)
             (λ i. absurd (i m))
-            (λ k i y. rw e (rw n at (holders doc q (s.referred k).ready y)))
-            s.terms;
+            (λ k i y. rw e (rw n at (holders doc q (p.referred k).ready y)))
+            p.terms;
       }
 
   -- the marks tell nothing yet
-  pub answers-fresh : (mode ≡ referring → ⊥) → (marks marks' : List ℕ) → marks ≡ marks' → ((x : ℕ) → marked marks' x ≡ false) → Answers marks
-  answers-fresh m marks marks' e none doc q r s x found =
+  pub answers-fresh : (b.mode ≡ referring → ⊥) → (marks marks' : List ℕ) → marks ≡ marks' → ((x : ℕ) → marked marks' x ≡ false) → Answers marks
+  answers-fresh m marks marks' e none doc q r p x found =
       record {
         test = _;
-        lowest = rw s.ready.periods.begin.size at found;
-        told = offends-told doc begins ends reps s.ready.periods s.ready.represents d q r (λ k. (s.referred k).valued_only) s.sequenced mode low high (marked marks)
+        lowest = rw p.ready.periods.begin.size at found;
+        told = offends-told doc _ _ _ p.ready.periods p.ready.represents s.from s.to p.on_day q r (λ k. (p.referred k).valued_only) p.sequenced b.mode b.low b.high (marked marks)
             (λ i y. rw e (none y))
             (λ k i. absurd (m i))
-            s.terms;
+            p.terms;
       }

@@ -34,7 +34,7 @@ pub record Laid (n : ℕ) (chosen : ℕ → Bool) (rows : ℕ → ℕ → Bool) 
   pub leads : (v : ℕ) → v < n → Next chosen n (suc v) (get_or next v 0)
   pub chains : (v : ℕ) → v < n → chosen v ≡ true → Chain (rows v) n (get_or last v 0) lower
 
-module _ (doc : Doc) (r : Rule) (start : ℕ) (next last lower begins ends reps : List ℕ) (s : Ready doc r start next last lower begins ends reps) where
+module _ {doc : Doc} {r : Rule} {start : ℕ} {next last lower begins ends reps : List ℕ} (s : Ready doc r start next last lower begins ends reps) where
   -- as many records as the column has entries
   pub sized : length begins ≡ doc.size
   sized = s.periods.begin.size

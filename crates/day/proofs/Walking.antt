@@ -8,7 +8,7 @@ use native.Mathlib.Nat.{eq-or-lt_of_le}
 use native.Mathlib.Omega.{arith}
 use lib.Dec.{eqb}
 use borrow.Author.Tests.{eqb-true}
-use Rattle.meaning.specs.declared.Found.TheVariants.{At, Nothing}
+use Rattle.std.specs.Prelude.{Some, None}
 use Rattle.meaning.specs.Walk.{any, first}
 use Rattle.meaning.proofs.Basics.{went, le_or_lt, clear}
 use Rattle.meaning.proofs.Walks.{any_none, first-at, first-none}
@@ -111,7 +111,7 @@ module _ (p : ℕ → Bool) (n : ℕ) (rep : ℕ → ℕ) (chosen : ℕ → Bool
     pub looked_start : (start : ℕ) → Next chosen n 0 start → Looked start old
     looked_start start s = record { told = told-start start s; none = λ u h. not_offends u (s.before u (omega arith) h) }
 
-    pub looked_end : (v : ℕ) (marks : List ℕ) → Looked v marks → n ≤ v → Nothing ≡ first (row_offends p n rep chosen rows mode (marked old) low high) 0 n
+    pub looked_end : (v : ℕ) (marks : List ℕ) → Looked v marks → n ≤ v → None ≡ first (row_offends p n rep chosen rows mode (marked old) low high) 0 n
     looked_end v marks s h = sym (first-none _ 0 n (λ u a b. s.none u (omega arith)))
 
     module _ (v : ℕ) (marks : List ℕ) (s : Looked v marks) (h : v < n) (after : List ℕ) (answer : Bool) (met : Met p n rep mode low high (rows v) v marks after answer) where
@@ -122,7 +122,7 @@ module _ (p : ℕ → Bool) (n : ℕ) (rep : ℕ → ℕ) (chosen : ℕ → Bool
           rw (s.told.is_chosen h)
           (sym (met.answers ∙ ap (λ (f : ℕ → Bool). p v && row_breaks p n rep mode low high (rows v) f) (fun_ext s.told.seen)))
 
-      pub looked_found : answer ≡ true → At v ≡ first (row_offends p n rep chosen rows mode (marked old) low high) 0 n
+      pub looked_found : answer ≡ true → Some v ≡ first (row_offends p n rep chosen rows mode (marked old) low high) 0 n
       looked_found y = sym (first-at _ v 0 n (omega arith) (omega arith) (answered ∙ y) (λ u a b. s.none u b))
 
       -- a row that does not offend leaves its only value

@@ -1,5 +1,6 @@
 -- The definitions that the contracts cite.
 pub mod Ready
+pub mod Along
 pub mod Row
 pub mod Table
 pub mod Settled

@@ -1,13 +1,9 @@
 -- One row on a day: how many of its records are present, what is asked of the only one, when it offends, and what it leaves marked.
-use Rattle.std.specs.Prelude.{◌≡◌, Bool, true, false, ◌&&◌, ◌||◌, not, cond, List, ℕ, ◌≤◌, ◌<◌, leb, ltb, eqb, length, get_or}
+use Rattle.std.specs.Prelude.{◌≡◌, Bool, true, false, ◌&&◌, ◌||◌, not, cond, List, ℕ, ◌≤◌, ◌<◌, ltb, eqb, length, get_or}
 use Rattle.meaning.specs.Walk.{any, count}
 use Rattle.columns.specs.Chains.{past_last}
 use Rattle.marks.specs.Marks.{marked}
 use Rattle.day.specs.Ready.{counted, referring}
-
--- the period of record i, begin to end, has day d
-abbrev pub lasts : List ℕ → List ℕ → ℕ → ℕ → Bool
-lasts begins ends d i = leb (get_or begins i 0) d && ltb d (get_or ends i 0)
 
 -- the records below n that `row` passes, chained: `past` is one past the last of them, `lower` leads from each to the one before
 pub record Chain (row : ℕ → Bool) (n past : ℕ) (lower : List ℕ) : Type 0 where

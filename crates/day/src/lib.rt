@@ -1,7 +1,7 @@
 // The lowest offender of one day, for a sequenced rule of any kind; that a nil spoils a key and a reference is left aside here.
 #![tactic(auto)]
 
-ghost use Rattle.std.specs.Prelude.{◌≡◌, true, ℕ, ◌≤◌, length, get_or};
+ghost use Rattle.std.specs.Prelude.{◌≡◌, true, ℕ, ◌≤◌, length};
 ghost use Rattle.meaning.specs.declared.Rule.{Rule};
 ghost use Rattle.meaning.specs.Walk.{any, first};
 ghost use Rattle.meaning.specs.Document.{Doc};
@@ -12,17 +12,20 @@ ghost use Rattle.meaning.specs.Day.{alive, present_on};
 ghost use Rattle.marks.specs.Marks.{marked};
 ghost use Rattle.prepare.specs.Rows.{in_row};
 ghost use Rattle.prepare.specs.Spoiling.{AsideOn};
-ghost use Rattle.day.specs.Ready.{Ready, Clear};
-ghost use Rattle.day.specs.Row.{lasts};
+ghost use Rattle.day.specs.Ready.{Clear};
+ghost use Rattle.day.specs.Along.{size, there, stands, ReadyAlong};
 ghost use Rattle.day.specs.Table.{holder, row_offends};
 ghost use Rattle.day.specs.Settled.{Posed, Settled};
 
 use columns::LIMIT;
-use meaning::{Found, Rule};
+use lent::{Stretch, Trail};
+use meaning::Rule;
 use numbers::index;
 use places::Place;
 use prepare::Prepared;
+use terms::Bounds;
 
+pub mod lent; // lent.rt: what is lent to a look at the rows of a rule
 mod row; // row.rt: one row of a rule on a day
 pub mod terms; // terms.rt: how a rule of each kind counts
 
@@ -34,115 +37,66 @@ pub const DISTINCT: u8 = 1;
 pub const REFERRING: u8 = 2;
 
 // Marks the only value of each row. Cost: a look for each selected version and each of its wanted field versions.
-fn mark_rows(
-    start: usize,
-    next: &[u16],
-    last: &[u16],
-    lower: &[u16],
-    begin: &[u16],
-    end: &[u16],
-    rep: &[u16],
-    d: usize,
-    seen: &mut [u8],
-)
-    requires { (doc : Doc) × (r : Rule) × Ready doc r start next.now last.now lower.now begin.now end.now rep.now × Clear doc.size seen.old }
-    ensures { (doc : Doc) → (r : Rule) → Ready doc r start next.now last.now lower.now begin.now end.now rep.now → (y : ℕ) → marked seen.new y ≡ any (holder (lasts begin.now end.now d) (length begin.now) (λ f. get_or rep.now f 0) (selected doc r) (in_row doc r) y) 0 (length begin.now) }
+fn mark_rows(trail: Trail, stretch: Stretch, seen: &mut [u8])
+    requires { (doc : Doc) × (r : Rule) × ReadyAlong doc r trail stretch × Clear doc.size seen.old }
+    ensures { (doc : Doc) → (r : Rule) → ReadyAlong doc r trail.entry stretch.entry → (y : ℕ) → marked seen.new y ≡ any (holder (there stretch.entry) (size stretch.entry) (stands stretch.entry) (selected doc r) (in_row doc r) y) 0 (size stretch.entry) }
 {
-    let mut v = start;
-    while v < begin.len() {
-        row::row_offends(last, lower, begin, end, rep, d, v, DISTINCT, 0, 1, seen);
-        v = index(next[v]);
+    let bounds = Bounds {
+        mode: DISTINCT,
+        low: 0,
+        high: 1,
+    };
+    let mut v = trail.start;
+    // a while: it follows links
+    while v < stretch.begin.len() {
+        row::row_offends(trail, stretch, v, bounds, seen);
+        v = index(trail.next[v]);
     }
 }
 
 // The lowest selected version whose row offends. Cost: a look for each selected version and each of its wanted field versions.
-fn first_row(
-    start: usize,
-    next: &[u16],
-    last: &[u16],
-    lower: &[u16],
-    begin: &[u16],
-    end: &[u16],
-    rep: &[u16],
-    d: usize,
-    mode: u8,
-    low: usize,
-    high: usize,
-    seen: &mut [u8],
-) -> Found
-    requires { (doc : Doc) × (r : Rule) × Ready doc r start next.now last.now lower.now begin.now end.now rep.now × (doc.size ≤ length seen.old) }
-    ensures { (doc : Doc) → (r : Rule) → Ready doc r start next.now last.now lower.now begin.now end.now rep.now → result ≡ first (row_offends (lasts begin.now end.now d) (length begin.now) (λ f. get_or rep.now f 0) (selected doc r) (in_row doc r) mode (marked seen.old) low high) 0 (length begin.now) }
+fn first_row(trail: Trail, stretch: Stretch, bounds: Bounds, seen: &mut [u8]) -> Option<usize>
+    requires { (doc : Doc) × (r : Rule) × ReadyAlong doc r trail stretch × (doc.size ≤ length seen.old) }
+    ensures { (doc : Doc) → (r : Rule) → ReadyAlong doc r trail.entry stretch.entry → result ≡ first (row_offends (there stretch.entry) (size stretch.entry) (stands stretch.entry) (selected doc r) (in_row doc r) bounds.mode (marked seen.old) bounds.low bounds.high) 0 (size stretch.entry) }
 {
-    let mut v = start;
-    while v < begin.len() {
-        if row::row_offends(last, lower, begin, end, rep, d, v, mode, low, high, seen) {
-            return Found::At(v);
+    let mut v = trail.start;
+    // a while: it follows links
+    while v < stretch.begin.len() {
+        if row::row_offends(trail, stretch, v, bounds, seen) {
+            return Some(v);
         }
-        v = index(next[v]);
+        v = index(trail.next[v]);
     }
-    Found::Nothing
+    None
 }
 
-// The lowest offender of day d among the rows of a prepared rule, nils aside, no value being marked before.
+// The lowest offender of a day among the rows of a prepared rule, nils aside, no value being marked before.
 // Cost: a look for each selected version and each of its wanted field versions, of this rule and of the one that it refers to.
 fn offender_on(
-    start: usize,
-    next: &[u16],
-    last: &[u16],
-    lower: &[u16],
-    held_start: usize,
-    held_next: &[u16],
-    held_last: &[u16],
-    held_lower: &[u16],
-    begin: &[u16],
-    end: &[u16],
-    rep: &[u16],
-    d: usize,
-    mode: u8,
-    low: usize,
-    high: usize,
+    own: Trail,
+    held: Trail,
+    stretch: Stretch,
+    bounds: Bounds,
     seen: &mut [u8],
-) -> Found
-    requires { (doc : Doc) × (r : Rule) × (p : Rule) × Ready doc r start next.now last.now lower.now begin.now end.now rep.now × Ready doc p held_start held_next.now held_last.now held_lower.now begin.now end.now rep.now × Clear doc.size seen.old }
-    ensures { (doc : Doc) → (q r : Rule) → Posed doc q r start next.now last.now lower.now held_start held_next.now held_last.now held_lower.now begin.now end.now rep.now mode low high → AsideOn doc (alive doc d) q r result }
+) -> Option<usize>
+    requires { (doc : Doc) × (r : Rule) × (p : Rule) × ReadyAlong doc r own stretch × ReadyAlong doc p held stretch × Clear doc.size seen.old }
+    ensures { (doc : Doc) → (q r : Rule) → Posed doc q r own.entry held.entry stretch.entry bounds → AsideOn doc (alive doc stretch.entry.from) q r result }
 {
-    if mode == REFERRING {
-        mark_rows(
-            held_start, held_next, held_last, held_lower, begin, end, rep, d, seen,
-        );
+    let referring = bounds.mode == REFERRING;
+    if referring {
+        mark_rows(held, stretch, seen);
     }
-    first_row(
-        start, next, last, lower, begin, end, rep, d, mode, low, high, seen,
-    )
+    first_row(own, stretch, bounds, seen)
 }
 
 // The same, with marks of its own. Cost: a clear mark for each record, then a look for each selected version and
 // each of its wanted field versions, of this rule and of the one that it refers to.
-fn look<'a>(
-    start: usize,
-    next: &'a [u16],
-    last: &'a [u16],
-    lower: &'a [u16],
-    held_start: usize,
-    held_next: &'a [u16],
-    held_last: &'a [u16],
-    held_lower: &'a [u16],
-    begin: &[u16],
-    end: &[u16],
-    rep: &[u16],
-    d: usize,
-    mode: u8,
-    low: usize,
-    high: usize,
-) -> Found
-    requires { (doc : Doc) × (r : Rule) × (p : Rule) × Ready doc r start next.now last.now lower.now begin.now end.now rep.now × Ready doc p held_start held_next.now held_last.now held_lower.now begin.now end.now rep.now × (doc.size ≤ limit) }
-    ensures { (doc : Doc) → (q r : Rule) → Posed doc q r start next.now last.now lower.now held_start held_next.now held_last.now held_lower.now begin.now end.now rep.now mode low high → AsideOn doc (alive doc d) q r result }
+fn look(own: Trail, held: Trail, stretch: Stretch, bounds: Bounds) -> Option<usize>
+    requires { (doc : Doc) × (r : Rule) × (p : Rule) × ReadyAlong doc r own stretch × ReadyAlong doc p held stretch × (doc.size ≤ limit) }
+    ensures { (doc : Doc) → (q r : Rule) → Posed doc q r own.entry held.entry stretch.entry bounds → AsideOn doc (alive doc stretch.entry.from) q r result }
 {
     let mut seen = [0u8; LIMIT];
-    offender_on(
-        start, next, last, lower, held_start, held_next, held_last, held_lower, begin, end, rep, d,
-        mode, low, high, &mut seen,
-    )
+    offender_on(own, held, stretch, bounds, &mut seen)
 }
 
 // The lowest offender of a prepared sequenced rule at a place, which is a day, nils aside. Cost: that of the look.
@@ -154,26 +108,18 @@ pub fn offender_at(
     rep: &[u16],
     r: Rule,
     here: Place,
-) -> Found
+) -> Option<usize>
     requires { (rule_fields r ≡ true) × ((doc : Doc) × (q : Rule) × Settled doc q r own held begin.now end.now rep.now) }
     ensures { (doc : Doc) → (q : Rule) → Settled doc q r own held begin.now end.now rep.now → is_sequenced r ≡ true → AsideOn doc (present_on doc here.from) q r result }
 {
     let bounds = terms::terms(r);
-    look(
-        own.start,
-        &own.next,
-        &own.last,
-        &own.lower,
-        held.start,
-        &held.next,
-        &held.last,
-        &held.lower,
+    let day = here.from;
+    let stretch = Stretch {
         begin,
         end,
         rep,
-        here.from,
-        bounds.mode,
-        bounds.low,
-        bounds.high,
-    )
+        from: day,
+        to: day.saturating_add(1),
+    };
+    look(Trail::from(&own), Trail::from(&held), stretch, bounds)
 }

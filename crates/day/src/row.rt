@@ -1,7 +1,10 @@
 // One row of a rule on a day: how many of its field versions are present, and whether it offends.
 ghost use Rattle.std.specs.Prelude.{◌≡◌, Bool, true, ℕ, ◌<◌, ◌≤◌, length, get_or};
-ghost use Rattle.day.specs.Row.{lasts, Chain, Fits, Tallied, Met};
+ghost use Rattle.day.specs.Along.{size, there, stands};
+ghost use Rattle.day.specs.Row.{Chain, Fits, Tallied, Met};
 
+use crate::lent::{Stretch, Trail};
+use crate::terms::Bounds;
 use crate::{COUNTED, REFERRING};
 use numbers::index;
 
@@ -12,47 +15,39 @@ pub struct Tally {
     pub rep: usize,
 }
 
-// Whether version i is there on day d. Two looks.
-fn present(begin: &[u16], end: &[u16], d: usize, i: usize) -> bool
-    requires { (i < length begin.now) × (length begin.now ≤ length end.now) }
-    ensures { result ≡ lasts begin.now end.now d i }
-{
-    (index(begin[i]) <= d) & (d < index(end[i]))
-}
-
 // The present ones of the row that ends one below `past`. Cost: a look for each of the row.
-fn tally_row(begin: &[u16], end: &[u16], lower: &[u16], rep: &[u16], d: usize, past: usize) -> Tally
-    requires rooms { (length begin.now ≤ length end.now) × (length begin.now ≤ length lower.now) × (length begin.now ≤ length rep.now) }
-    requires chain { (row : ℕ → Bool) × Chain row (length begin.now) past lower.now }
-    ensures { (row : ℕ → Bool) → Chain row (length begin.now) past lower.now → Tallied (lasts begin.now end.now d) (length begin.now) row (λ f. get_or rep.now f 0) result.count result.rep }
+fn tally_row(trail: Trail, stretch: Stretch, past: usize) -> Tally
+    requires rooms { (size stretch ≤ length stretch.end.now) × (size stretch ≤ length trail.lower.now) × (size stretch ≤ length stretch.rep.now) }
+    requires chain { (row : ℕ → Bool) × Chain row (size stretch) past trail.lower.now }
+    ensures { (row : ℕ → Bool) → Chain row (size stretch.entry) past trail.entry.lower.now → Tallied (there stretch.entry) (size stretch.entry) row (stands stretch.entry) result.count result.rep }
 {
     let mut count: usize = 0;
     let mut last: usize = 0;
     let mut at = past;
+    // a while: it follows links
     while 0 < at {
-        if present(begin, end, d, at - 1) {
+        if stretch.has(at - 1) {
             count += 1;
-            last = index(rep[at - 1]);
+            last = index(stretch.rep[at - 1]);
         }
-        at = index(lower[at - 1]);
+        at = index(trail.lower[at - 1]);
     }
-    Tally {
-        count: count,
-        rep: last,
-    }
+    Tally { count, rep: last }
 }
 
-// Whether a row with so many present ones offends, x being the representative where it is one; by the mode, that value is marked. Two looks.
-fn count_offends(count: usize, x: usize, mode: u8, low: usize, high: usize, seen: &mut [u8]) -> bool
-    requires { count ≡ 1 → x < length seen.old }
-    ensures { (p : ℕ → Bool) (n : ℕ) (rep : ℕ → ℕ) (row : ℕ → Bool) (v : ℕ) → p v ≡ true → Tallied p n row rep count x → Met p n rep mode low high row v seen.old seen.new result }
+// Whether a row of which so many are present offends; by the mode, the value of an only one is marked. Two looks.
+fn count_offends(tally: Tally, bounds: Bounds, seen: &mut [u8]) -> bool
+    requires { tally.count ≡ 1 → tally.rep < length seen.old }
+    ensures { (p : ℕ → Bool) (n : ℕ) (rep : ℕ → ℕ) (row : ℕ → Bool) (v : ℕ) → p v ≡ true → Tallied p n row rep tally.count tally.rep → Met p n rep bounds.mode bounds.low bounds.high row v seen.old seen.new result }
 {
-    let out = (count < low) | (high < count);
-    if out | (mode == COUNTED) | (count != 1) {
+    let count = tally.count;
+    let out = (count < bounds.low) | (bounds.high < count);
+    if out | (bounds.mode == COUNTED) | (count != 1) {
         return out;
     }
+    let x = tally.rep;
     let known = seen[x] == 1;
-    if mode == REFERRING {
+    if bounds.mode == REFERRING {
         return !known;
     }
     seen[x] = 1;
@@ -61,25 +56,19 @@ fn count_offends(count: usize, x: usize, mode: u8, low: usize, high: usize, seen
 
 // Whether the row of version v offends; by the mode, its only value is marked. Cost: a look for each of the row.
 pub fn row_offends(
-    last: &[u16],
-    lower: &[u16],
-    begin: &[u16],
-    end: &[u16],
-    rep: &[u16],
-    d: usize,
+    trail: Trail,
+    stretch: Stretch,
     v: usize,
-    mode: u8,
-    low: usize,
-    high: usize,
+    bounds: Bounds,
     seen: &mut [u8],
 ) -> bool
-    requires rooms { (v < length begin.now) × Fits (length begin.now) last.now lower.now end.now rep.now seen.old }
-    requires chain { (row : ℕ → Bool) × Chain row (length begin.now) (get_or last.now v 0) lower.now }
-    ensures { (row : ℕ → Bool) → Chain row (length begin.now) (get_or last.now v 0) lower.now → Met (lasts begin.now end.now d) (length begin.now) (λ f. get_or rep.now f 0) mode low high row v seen.old seen.new result }
+    requires rooms { (v < size stretch) × Fits (size stretch) trail.last.now trail.lower.now stretch.end.now stretch.rep.now seen.old }
+    requires chain { (row : ℕ → Bool) × Chain row (size stretch) (get_or trail.last.now v 0) trail.lower.now }
+    ensures { (row : ℕ → Bool) → Chain row (size stretch.entry) (get_or trail.entry.last.now v 0) trail.entry.lower.now → Met (there stretch.entry) (size stretch.entry) (stands stretch.entry) bounds.mode bounds.low bounds.high row v seen.old seen.new result }
 {
-    if !present(begin, end, d, v) {
+    if !stretch.has(v) {
         return false;
     }
-    let row = tally_row(begin, end, lower, rep, d, index(last[v]));
-    count_offends(row.count, row.rep, mode, low, high, seen)
+    let tally = tally_row(trail, stretch, index(trail.last[v]));
+    count_offends(tally, bounds, seen)
 }

@@ -2,22 +2,23 @@
 // `past` and `past_j` are one past a record of a chain, and 0 at its end.
 #![tactic(auto)]
 
-ghost use Rattle.std.specs.Prelude.{◌≡◌, ◌&&◌, ◌||◌, List, ℕ, ◌-◌, ◌<◌, ◌≤◌, leb, ltb, length, take};
-ghost use Rattle.meaning.specs.declared.Reading.TheVariants.{Accepted};
+ghost use Rattle.std.specs.Prelude.{◌≡◌, ◌&&◌, ◌||◌, ℕ, ◌<◌, ◌≤◌, leb, ltb, length};
+ghost use Rattle.meaning.specs.Reading.{Accepted};
 ghost use Rattle.meaning.specs.Block.{limit};
 ghost use Rattle.meaning.specs.Walk.{any};
 ghost use Rattle.meaning.specs.Document.{Doc};
 ghost use Rattle.meaning.specs.Day.{present_on, slice};
 ghost use Rattle.meaning.specs.Answer.{storing, lent_after};
 ghost use Rattle.columns.specs.Chains.{past_last};
-ghost use Rattle.columns.specs.Lent.{Lends, Periods};
+ghost use Rattle.columns.specs.Lent.{Lends, PeriodsOf};
 ghost use Rattle.columns.specs.Judgeable.{Judgeable};
 ghost use Rattle.marks.specs.Marks.{marked, Marks};
-ghost use Rattle.descent.specs.Descent.{current_of, item_in, comes, Single, Linked};
+ghost use Rattle.descent.specs.Descent.{current_of, item_in, comes, Single};
+ghost use Rattle.descent.specs.Links.{Links};
 
-use columns::LIMIT;
 use columns::chains::chain;
-use meaning::Listed;
+use columns::{LIMIT, Records};
+use meaning::Refusal;
 use numbers::index;
 
 // The most items on a way from the root down to a version.
@@ -30,24 +31,30 @@ fn lasts(begin: u16, end: u16, d: u16) -> bool
     (begin <= d) & (d < end)
 }
 
+// The chains of a document and its periods: the versions of each item and the items in each version, from the last down, and the days on which
+// each version begins and ends.
+#[derive(Clone, Copy)]
+pub struct Chains<'a> {
+    pub version_last: &'a [u16],
+    pub version_lower: &'a [u16],
+    pub item_last: &'a [u16],
+    pub item_lower: &'a [u16],
+    pub begin: &'a [u16],
+    pub end: &'a [u16],
+}
+
 // One past the current version of item i on day d, 0 where it has none. Cost: a look for each version of i.
-fn current(
-    version_last: &[u16],
-    version_lower: &[u16],
-    begin: &[u16],
-    end: &[u16],
-    d: u16,
-    i: usize,
-) -> usize
-    requires { (i < limit) × ((doc : Doc) × (last : List ℕ) × (lower : List ℕ) × Linked doc version_last.now version_lower.now last lower begin.now end.now) }
-    ensures { (doc : Doc) (last lower : List ℕ) → Linked doc version_last.now version_lower.now last lower begin.now end.now → result ≡ past_last (current_of doc d i) doc.size }
+fn current(chains: Chains, d: u16, i: usize) -> usize
+    requires { (i < limit) × ((doc : Doc) × Links doc chains) }
+    ensures { (doc : Doc) → Links doc chains.entry → result ≡ past_last (current_of doc d i) doc.size }
 {
-    let mut past = index(version_last[i]);
+    let mut past = index(chains.version_last[i]);
+    // a while: it follows links
     while 0 < past {
-        if lasts(begin[past - 1], end[past - 1], d) {
+        if lasts(chains.begin[past - 1], chains.end[past - 1], d) {
             return past;
         }
-        past = index(version_lower[past - 1]);
+        past = index(chains.version_lower[past - 1]);
     }
     0
 }
@@ -55,173 +62,63 @@ fn current(
 // Marks the versions that are come to from item i in at most so many levels.
 // Cost: a look for each version of each item come to, and for each item in a version come to.
 #[cycle(look_item_look_version)]
-fn look_item(
-    version_last: &[u16],
-    version_lower: &[u16],
-    item_last: &[u16],
-    item_lower: &[u16],
-    begin: &[u16],
-    end: &[u16],
-    d: u16,
-    levels: usize,
-    i: usize,
-    seen: &mut [u8],
-)
-    requires { (i < limit) × (limit ≤ length seen.old) × ((doc : Doc) × Linked doc version_last.now version_lower.now item_last.now item_lower.now begin.now end.now) }
-    ensures { (doc : Doc) → Linked doc version_last.now version_lower.now item_last.now item_lower.now begin.now end.now → (w : ℕ) → marked seen.new w ≡ (marked seen.old w || comes doc d levels i w) }
+fn look_item(chains: Chains, d: u16, levels: usize, i: usize, seen: &mut [u8])
+    requires { (i < limit) × (limit ≤ length seen.old) × ((doc : Doc) × Links doc chains) }
+    ensures { (doc : Doc) → Links doc chains.entry → (w : ℕ) → marked seen.new w ≡ (marked seen.old w || comes doc d levels i w) }
 {
     if levels == 0 {
         return;
     }
-    let past = current(version_last, version_lower, begin, end, d, i);
+    let past = current(chains, d, i);
     if past == 0 {
         return;
     }
     seen[past - 1] = 1;
-    look_version(
-        version_last,
-        version_lower,
-        item_last,
-        item_lower,
-        begin,
-        end,
-        d,
-        levels - 1,
-        past - 1,
-        seen,
-    );
+    look_version(chains, d, levels - 1, past - 1, seen);
 }
 
 // Marks the versions that are come to from the items in version v, in at most so many levels from each.
 // Cost: as of `look_item`, for each item in v.
 #[cycle(look_item_look_version)]
-fn look_version(
-    version_last: &[u16],
-    version_lower: &[u16],
-    item_last: &[u16],
-    item_lower: &[u16],
-    begin: &[u16],
-    end: &[u16],
-    d: u16,
-    levels: usize,
-    v: usize,
-    seen: &mut [u8],
-)
-    requires { (v < limit) × (limit ≤ length seen.old) × ((doc : Doc) × Linked doc version_last.now version_lower.now item_last.now item_lower.now begin.now end.now) }
-    ensures { (doc : Doc) → Linked doc version_last.now version_lower.now item_last.now item_lower.now begin.now end.now → (w : ℕ) → marked seen.new w ≡ (marked seen.old w || any (λ j. item_in doc v j && comes doc d levels j w) 0 doc.size) }
+fn look_version(chains: Chains, d: u16, levels: usize, v: usize, seen: &mut [u8])
+    requires { (v < limit) × (limit ≤ length seen.old) × ((doc : Doc) × Links doc chains) }
+    ensures { (doc : Doc) → Links doc chains.entry → (w : ℕ) → marked seen.new w ≡ (marked seen.old w || any (λ j. item_in doc v j && comes doc d levels j w) 0 doc.size) }
 {
-    let mut past_j = index(item_last[v]);
+    let mut past_j = index(chains.item_last[v]);
+    // a while: it follows links
     while 0 < past_j {
-        look_item(
-            version_last,
-            version_lower,
-            item_last,
-            item_lower,
-            begin,
-            end,
-            d,
-            levels,
-            past_j - 1,
-            seen,
-        );
-        past_j = index(item_lower[past_j - 1]);
+        look_item(chains, d, levels, past_j - 1, seen);
+        past_j = index(chains.item_lower[past_j - 1]);
     }
 }
 
 // Marks on the versions present on day d, found from the root down.
 // Cost: an array to clear, and a look for each version of each item come to: no more than one for each record.
-fn from_root<'a>(
-    version_last: &'a [u16],
-    version_lower: &'a [u16],
-    item_last: &'a [u16],
-    item_lower: &'a [u16],
-    begin: &[u16],
-    end: &[u16],
-    d: u16,
-) -> [u8; LIMIT]
-    requires { (doc : Doc) × Linked doc version_last.now version_lower.now item_last.now item_lower.now begin.now end.now }
-    ensures { (doc : Doc) → Linked doc version_last.now version_lower.now item_last.now item_lower.now begin.now end.now → Marks (present_on doc d) doc.size result }
+pub fn present_on(chains: Chains, d: u16) -> [u8; LIMIT]
+    requires { (doc : Doc) × Links doc chains }
+    ensures { (doc : Doc) → Links doc chains.entry → Marks (present_on doc d) doc.size result }
 {
     let mut seen = [0u8; LIMIT];
-    look_item(
-        version_last,
-        version_lower,
-        item_last,
-        item_lower,
-        begin,
-        end,
-        d,
-        DEEPEST,
-        0,
-        &mut seen,
-    );
+    look_item(chains, d, DEEPEST, 0, &mut seen);
     seen
 }
 
-// Marks on the versions present on day d, for callers that lend all six columns at one lifetime. Cost: as of `from_root`.
-pub fn present_on<'a>(
-    version_last: &'a [u16],
-    version_lower: &'a [u16],
-    item_last: &'a [u16],
-    item_lower: &'a [u16],
-    begin: &'a [u16],
-    end: &'a [u16],
-    d: u16,
-) -> [u8; LIMIT]
-    requires { (doc : Doc) × Linked doc version_last.now version_lower.now item_last.now item_lower.now begin.now end.now }
-    ensures { (doc : Doc) → Linked doc version_last.now version_lower.now item_last.now item_lower.now begin.now end.now → Marks (present_on doc d) doc.size result }
-{
-    from_root(
-        version_last,
-        version_lower,
-        item_last,
-        item_lower,
-        begin,
-        end,
-        d,
-    )
-}
-
 // The slice of day d, into a lent list. Cost: a pass over the columns for each chain, the descent, and two looks at each record.
-pub fn slice_columns(
-    kind: &[u8],
-    parent: &[u16],
-    begin: &[u16],
-    end: &[u16],
-    d: u16,
-    out: &mut [u16],
-) -> Listed
-    requires { (doc : Doc) × Lends doc.size doc.kind 0 kind.now × Lends doc.size doc.parent 0 parent.now × Periods doc begin.now end.now × Judgeable doc × Single doc }
-    ensures answer { (doc : Doc) → Lends doc.size doc.kind 0 kind.now → Lends doc.size doc.parent 0 parent.now → Periods doc begin.now end.now → Judgeable doc → Single doc → result ≡ storing Accepted (slice doc d) out.old }
-    ensures lent { (doc : Doc) → Lends doc.size doc.kind 0 kind.now → Lends doc.size doc.parent 0 parent.now → Periods doc begin.now end.now → Judgeable doc → Single doc → out.new ≡ lent_after result (slice doc d) out.old }
+pub fn slice_front(records: Records<'_>, d: u16, out: &mut [u16]) -> Result<usize, Refusal>
+    requires { (doc : Doc) × Lends doc.size doc.kind 0 records.kind.now × Lends doc.size doc.parent 0 records.parent.now × PeriodsOf doc records × Judgeable doc × Single doc }
+    ensures answer { (doc : Doc) → Lends doc.size doc.kind 0 records.entry.kind.now → Lends doc.size doc.parent 0 records.entry.parent.now → PeriodsOf doc records.entry → Judgeable doc → Single doc → result ≡ storing Accepted (slice doc d) out.old }
+    ensures lent { (doc : Doc) → Lends doc.size doc.kind 0 records.entry.kind.now → Lends doc.size doc.parent 0 records.entry.parent.now → PeriodsOf doc records.entry → Judgeable doc → Single doc → out.new ≡ lent_after result (slice doc d) out.old }
 {
-    let versions = chain(kind, parent, 2);
-    let items = chain(kind, parent, 1);
-    let seen = from_root(
-        &versions.last,
-        &versions.lower,
-        &items.last,
-        &items.lower,
-        begin,
-        end,
-        d,
-    );
-    marks::store_marked(&seen, 0, kind.len(), out)
-}
-
-// The same over the first n entries of the columns.
-pub fn slice_front(
-    n: usize,
-    kind: &[u8],
-    parent: &[u16],
-    begin: &[u16],
-    end: &[u16],
-    d: u16,
-    out: &mut [u16],
-) -> Listed
-    requires { (n ≤ length kind.now) × (n ≤ length parent.now) × (n ≤ length begin.now) × (n ≤ length end.now) × ((doc : Doc) × Lends doc.size doc.kind 0 (take (n - 0) kind.now) × Lends doc.size doc.parent 0 (take (n - 0) parent.now) × Periods doc (take (n - 0) begin.now) (take (n - 0) end.now) × Judgeable doc × Single doc) }
-    ensures answer { (doc : Doc) → Lends doc.size doc.kind 0 (take (n - 0) kind.now) → Lends doc.size doc.parent 0 (take (n - 0) parent.now) → Periods doc (take (n - 0) begin.now) (take (n - 0) end.now) → Judgeable doc → Single doc → result ≡ storing Accepted (slice doc d) out.old }
-    ensures lent { (doc : Doc) → Lends doc.size doc.kind 0 (take (n - 0) kind.now) → Lends doc.size doc.parent 0 (take (n - 0) parent.now) → Periods doc (take (n - 0) begin.now) (take (n - 0) end.now) → Judgeable doc → Single doc → out.new ≡ lent_after result (slice doc d) out.old }
-{
-    slice_columns(&kind[0..n], &parent[0..n], &begin[0..n], &end[0..n], d, out)
+    let versions = chain(records.kind, records.parent, 2);
+    let items = chain(records.kind, records.parent, 1);
+    let chains = Chains {
+        version_last: &versions.last,
+        version_lower: &versions.lower,
+        item_last: &items.last,
+        item_lower: &items.lower,
+        begin: records.begin,
+        end: records.end,
+    };
+    let seen = present_on(chains, d);
+    marks::store_marked(&seen, 0, records.kind.len(), out)
 }

@@ -1,13 +1,14 @@
 -- How records get their classes: one record, the next of a chain, a chain to its end, and all keys.
 use mathlib.Core.Path.{◌≡◌, refl, sym, ◌∙◌, ap}
 use mathlib.Core.Bool.{Bool, true, false, ◌&&◌}
-use mathlib.Core.Logic.{◌⊎◌, inl, inr, ⊎_elim}
+use mathlib.Core.Logic.{⊎_elim}
 use mathlib.Core.List.{List}
 use Prim.Native.Nat.{ℕ, zero, suc, ◌+◌, ◌-◌, ◌≤◌, ◌<◌}
 use native.Mathlib.Omega.{arith}
 use lib.Dec.{eqb}
 use lib.ListN.{length, set, take, replicate, get_or-replicate, length-take, length-replicate}
 use lib.Seq.{get_or-set_same, get_or-set_other}
+use Rattle.std.proofs.lemmas.Bool.{cases_eq}
 use Rattle.meaning.specs.Block.{limit}
 use Rattle.meaning.proofs.Basics.{went, clear, le_or_lt}
 use Rattle.meaning.proofs.Says.{says}
@@ -15,9 +16,6 @@ use Rattle.columns.specs.Chains.{past_last, keyed, Chained}
 use Rattle.columns.proofs.Along.{past-low, past-in}
 use Rattle.crowds.specs.Crowds.{at}
 use Rattle.distinct.specs.Classes.{Pairs, has_key, Linked, Classed, Done, Stand}
-
-pub same_or : (a b : ℕ) → (a ≡ b) ⊎ (a ≡ b → ⊥)
-same_or a b = ⊎_elim (λ y. inl (simp says at y)) (λ z. inr (simp says at z)) (went (eqb a b))
 
 -- record y has the key and the value of x
 abbrev pub alike : List ℕ → List ℕ → ℕ → ℕ → Bool
@@ -57,7 +55,7 @@ past-none m zero z h l = absurd (omega arith)
 past-none m (suc t) z h l =
     ⊎_elim
     (λ y. absurd (omega (arith, rw y at h)))
-    (λ no. ⊎_elim (λ (e : z ≡ t). ap m e ∙ no) (λ e. past-none m t z (rw no at h) (omega arith)) (same_or z t))
+    (λ no. ⊎_elim (λ (e : z ≡ t). ap m e ∙ no) (λ e. past-none m t z (rw no at h) (omega arith)) (cases_eq z t))
     (went (m t))
 
 -- the walk along the chain of key k has come to `past`
@@ -131,25 +129,25 @@ module _ (keys reps : List ℕ) (n k past : ℕ) (whose pair : List ℕ) (s : St
           low = λ z h d. ⊎_elim
               (λ (e : z ≡ x). rw (e, own) c.low)
               (λ q. rw (other z q) (s.low z h (older z q d)))
-              (same_or z x);
+              (cases_eq z x);
           key = λ z h d. ⊎_elim
               (λ (e : z ≡ x). rw (e, own) c.key)
               (λ q. rw (other z q) (s.key z h (older z q d)))
-              (same_or z x);
+              (cases_eq z x);
           rep = λ z h d. ⊎_elim
               (λ (e : z ≡ x). rw (e, own) c.rep)
               (λ q. rw (other z q) (s.rep z h (older z q d)))
-              (same_or z x);
+              (cases_eq z x);
           same = λ z y h l d f a b. ⊎_elim
               (λ (e : z ≡ x). ⊎_elim
               (λ (g : y ≡ x). ap (at pair') (e ∙ sym g))
               (λ g. ap (at pair') e ∙ sym (met_done y l g f (sym a ∙ ap (at keys) e) (sym b ∙ ap (at reps) e)))
-              (same_or y x))
+              (cases_eq y x))
               (λ q. ⊎_elim
               (λ (g : y ≡ x). met_done z h q d (a ∙ ap (at keys) g) (b ∙ ap (at reps) g) ∙ ap (at pair') (sym g))
               (λ g. other z q ∙ s.same z y h l (older z q d) (older y g f) a b ∙ sym (other y g))
-              (same_or y x))
-              (same_or z x);
+              (cases_eq y x))
+              (cases_eq z x);
           held = λ z h q l. ⊎_elim
               (λ (e : z ≡ x). ap (at whose') (ap (at reps) e) ∙ c.held ∙ sym own ∙ ap (at pair') (sym e))
               (λ g.
@@ -157,8 +155,8 @@ module _ (keys reps : List ℕ) (n k past : ℕ) (whose pair : List ℕ) (s : St
               ⊎_elim
               (λ (e : at reps z ≡ at reps x). ap (at whose') e ∙ c.held ∙ sym (met z h q up e) ∙ sym (other z g))
               (λ e. c.others (at reps z) e ∙ s.held z h q up ∙ sym (other z g))
-              (same_or (at reps z) (at reps x)))
-              (same_or z x);
+              (cases_eq (at reps z) (at reps x)))
+              (cases_eq z x);
         }
 
 -- none has a class yet
@@ -218,11 +216,11 @@ zero_at (suc l) (suc m) zero = refl
 zero_at (suc l) (suc m) (suc r) = zero_at l m r
 
 pub linked_all : (l : ℕ) (keys : List ℕ) (n : ℕ) (last lower : List ℕ) → n ≤ limit → n ≤ l →
-    Chained limit (unset l (n - 0)) keys 0 (length (unset l (n - 0))) last lower → Linked keys n last lower
+    Chained limit (unset l n) keys 0 (length (unset l n)) last lower → Linked keys n last lower
 linked_all l keys n last lower few room c =
-    let kinds = unset l (n - 0) in
+    let kinds = unset l n in
     let e : length kinds ≡ n = simp (length-take, length-replicate) (omega arith) in
-    linked kinds keys n last lower (zero_at l (n - 0)) few (rw e at c)
+    linked kinds keys n last lower (zero_at l n) few (rw e at c)
 
 -- the walk along the chain of key k is at the record below `past`, or at its end
 pub record OnChain (keys : List ℕ) (n k past : ℕ) : Type 0 where

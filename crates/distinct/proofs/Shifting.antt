@@ -3,19 +3,19 @@ use mathlib.Core.Path.{◌≡◌, refl, sym, ◌∙◌, ap}
 use mathlib.Core.Bool.{Bool, false, ◌&&◌, ◌||◌}
 use mathlib.Core.Logic.{⊎_elim}
 use mathlib.Core.List.{List}
-use Prim.Native.Nat.{ℕ, zero, suc, ◌+◌, ◌≤◌, ◌<◌}
+use Prim.Native.Nat.{ℕ, zero, suc, ◌+◌, ◌≤◌, ◌<◌, max}
 use native.Mathlib.Omega.{arith}
 use lib.Dec.{eqb, ltb}
 use lib.ListN.{length, set, replicate, get_or-replicate}
 use lib.Seq.{get_or-set_same, get_or-set_other}
+use Rattle.std.proofs.lemmas.Bool.{cases_eq}
 use Rattle.meaning.specs.Walk.{any}
 use Rattle.meaning.proofs.Basics.{went, clear, le_or_lt}
 use Rattle.meaning.proofs.Says.{says}
 use Rattle.meaning.proofs.Walks.{any-true, any_false}
 use Rattle.crowds.specs.Crowds.{at, Ordered}
 use Rattle.crowds.specs.Tallies.{by}
-use Rattle.distinct.specs.Shifts.{Holder, CountsOnce, Unmoved, Later, Placed}
-use Rattle.distinct.proofs.Classing.{same_or}
+use Rattle.distinct.specs.Shifts.{Holder, CountsOnce, Unmoved, Placed}
 
 -- record x gets its place
 module _ (c a b n x : ℕ) (top first : List ℕ) (room : x < length first) where
@@ -35,7 +35,7 @@ module _ (c a b n x : ℕ) (top first : List ℕ) (room : x < length first) wher
       }
 
   -- the later one of its own and of the top of its class, which rises to its end
-  pub placed-after : (k t f : ℕ) → k ≡ c → k < n → k < length top → Later (at top k) b t → Later a (at top k) f →
+  pub placed-after : (k t f : ℕ) → k ≡ c → k < n → k < length top → t ≡ max (at top k) b → f ≡ max a (at top k) →
       Placed c a b n x top first (set top k t) (set first x f) (ltb a (at top k))
   placed-after k t f ek kn kt lt lf =
       let new = get_or-set_same first x f 0 room in
@@ -44,19 +44,19 @@ module _ (c a b n x : ℕ) (top first : List ℕ) (room : x < length first) wher
       let et : at (set top k t) c ≡ t = ap (at (set top k t)) (sym ek) ∙ newt in
       record {
         others = λ y q. get_or-set_other first x y f 0 q;
-        begins = omega (arith, new, lf.left);
-        after = λ l. omega (arith, new, lf.right);
-        least = λ p l g. omega (arith, new, lf.least p l (omega (arith, g (omega arith))));
-        stays = λ e. let h = simp says at e in omega (arith, new, lf.left, lf.least a (omega arith) h);
+        begins = omega (arith, new);
+        after = λ l. omega (arith, new);
+        least = λ p l g. omega (arith, new, g (omega arith));
+        stays = λ e. let h = simp says at e in omega (arith, new, h);
         no_lower = λ d. ⊎_elim
-            (λ (e : d ≡ k). rw (e, newt) lt.left)
+            (λ (e : d ≡ k). rw (e, newt) (omega arith))
             (λ q. rw (get_or-set_other top k d t 0 q) (omega arith))
-            (same_or d k);
-        risen = λ l. omega (arith, lt.right);
+            (cases_eq d k);
+        risen = λ l. omega arith;
         no_higher = λ d p l g. ⊎_elim
-            (λ (e : d ≡ k). let l' : at top k ≤ p = rw e at l in rw (e, newt) (lt.least p l' (g (e ∙ ek))))
+            (λ (e : d ≡ k). let l' : at top k ≤ p = rw e at l in rw (e, newt) (omega (arith, g (e ∙ ek))))
             (λ q. rw (get_or-set_other top k d t 0 q) l)
-            (same_or d k);
+            (cases_eq d k);
       }
 
 module _ (order pairs lo hi : List ℕ) (n : ℕ) where
@@ -106,13 +106,13 @@ module _ (order pairs lo hi : List ℕ) (n : ℕ) where
             begun = λ j h. ⊎_elim
                 (λ (e : j ≡ i). omega (arith, at_i lo j e, first-i j e, d.begins))
                 (λ q. rw (kept j (omega arith)) (s.begun j (omega arith)))
-                (same_or j i);
+                (cases_eq j i);
             after = λ l j g h e c. ⊎_elim
                 (λ (q : j ≡ i).
                 let ec : at pairs x < n = omega (arith, at_i pairs j q) in
                 omega (arith, first-i j q, d.after ec, s.tops l (at pairs x) (omega arith) (e ∙ at_i pairs j q) ec))
                 (λ q. rw (kept j (omega arith)) (s.after l j g (omega arith) e c))
-                (same_or j i);
+                (cases_eq j i);
             least = λ j p h a f. ⊎_elim
                 (λ (q : j ≡ i).
                 omega (
@@ -122,13 +122,13 @@ module _ (order pairs lo hi : List ℕ) (n : ℕ) where
                       (λ c. s.no_higher (at pairs x) p c (λ l g e. f l (omega arith) (e ∙ sym (at_i pairs j q)))),
                 ))
                 (λ q. rw (kept j (omega arith)) (s.least j p (omega arith) a f))
-                (same_or j i);
+                (cases_eq j i);
             tops = λ j c h e l. ⊎_elim
                 (λ (q : j ≡ i).
                 let ec : at pairs x ≡ c = sym (at_i pairs j q) ∙ e in
                 omega (arith, at_i hi j q, d.risen (omega arith), ap (at top') ec))
                 (λ q. omega (arith, s.tops j c (omega arith) e l, d.no_lower c))
-                (same_or j i);
+                (cases_eq j i);
             no_higher = λ c p h f.
                 d.no_higher c p (s.no_higher c p h (λ j l. f j (omega arith)))
                 (λ e. omega (arith, at_i hi i refl, f i (omega arith) (at_i pairs i refl ∙ sym e)));
@@ -141,7 +141,7 @@ module _ (order pairs lo hi : List ℕ) (n : ℕ) where
             same = λ j h. ⊎_elim
                 (λ (q : j ≡ i). first-i j q ∙ d.stays w.1 ∙ sym (at_i lo j q))
                 (λ q. kept j (omega arith) ∙ (f w.0).same j (omega arith))
-                (same_or j i);
+                (cases_eq j i);
           }
 
     -- at the end
@@ -192,7 +192,7 @@ module _ (order pairs lo hi : List ℕ) (n : ℕ) where
                 (λ u. absurd (omega (arith, ap (at hi) w.1, ap (at first) v.1, s.after l j (omega arith) (omega arith) (el ∙ sym e ∙ sym ej) (omega arith))))
                 (λ u. absurd (omega (arith, ap (at hi) v.1, ap (at first) w.1, s.after j l u (omega arith) (ej ∙ e ∙ sym el) (omega arith))))
                 (le_or_lt l j))
-                (same_or j l);
+                (cases_eq j l);
           }
 
       pub still_all : Still i first → Unmoved order lo first

@@ -1,6 +1,6 @@
 -- From where on each record counts, if those of one class count once: from its first place, and from the end of those of its class before it.
 use Rattle.std.specs.Prelude.{◌≡◌, Bool, false, List, ℕ, ◌≤◌, ◌<◌, length}
-use Rattle.crowds.specs.Crowds.{at, Ordered}
+use Rattle.crowds.specs.Crowds.{at}
 
 -- a record of class c that counts at place p
 pub record Holder (pairs first hi : List ℕ) (n c p : ℕ) : Type 0 where
@@ -28,12 +28,6 @@ pub record Rooms (pairs lo hi first top : List ℕ) (n : ℕ) : Type 0 where
   pub in_hi : n ≤ length hi
   pub in_first : n ≤ length first
   pub in_top : n ≤ length top
-
--- the later one of two
-pub record Later (x y r : ℕ) : Type 0 where
-  pub left : x ≤ r
-  pub right : y ≤ r
-  pub least : (p : ℕ) → x ≤ p → y ≤ p → r ≤ p
 
 -- record x of class c, present from a up to b, was given its place, and the top of its class, if it has one, is b or later
 pub record Placed (c a b n x : ℕ) (top first top' first' : List ℕ) (raised : Bool) : Type 0 where

@@ -12,7 +12,7 @@ use lib.ListN.{length, get_or, set}
 use lib.Seq.{get_or-set_same, get_or-set_other}
 use borrow.Author.Count.{below_more}
 use borrow.Author.Tests.{ltb-true, ltb-false, lt-ltb, le-ltb, eqb-true, eqb-false, eq-eqb, ne_eqb}
-use Rattle.meaning.specs.declared.Found.TheVariants.{At, Nothing}
+use Rattle.std.specs.Prelude.{Some, None}
 use Rattle.meaning.specs.Walk.{any, first}
 use Rattle.meaning.specs.Document.{Doc, version_of}
 use Rattle.meaning.specs.Nodes.{early, leaves, misplaced}
@@ -60,7 +60,7 @@ module _ (doc : Doc) where
   pass_start last e = record { placed = λ v h. absurd (omega arith); ends = λ p b. sym (le-ltb b (get_or last p 0) (omega (arith, all-zero_lem last p e))) }
 
   module _ (last : List ℕ) (i : ℕ) (s : Pass last i) where
-    pub pass_end : doc.size ≤ i → Nothing ≡ first (misplaced doc) 0 doc.size
+    pub pass_end : doc.size ≤ i → None ≡ first (misplaced doc) 0 doc.size
     pass_end h = sym (first-none (misplaced doc) 0 doc.size (λ v a b. s.placed v (omega arith)))
 
     on : (new : List ℕ) → misplaced doc i ≡ false → ((p b : ℕ) → (ltb b (get_or last p 0) || after p b i) ≡ ltb b (get_or new p 0)) → Pass new (i + 1)
@@ -90,7 +90,7 @@ module _ (doc : Doc) where
       unfolding version_of
       of x = rw (eq-eqb (doc.kind i) 2 k, sym q)
 
-      pub pass_hit : test ≡ true → i < doc.size → At i ≡ first (misplaced doc) 0 doc.size
+      pub pass_hit : test ≡ true → i < doc.size → Some i ≡ first (misplaced doc) 0 doc.size
       pass_hit y h = sym (first-at (misplaced doc) i 0 doc.size (omega arith) (omega arith) (misplaced-by ∙ y) (λ v a b. s.placed v b))
 
       pub pass_store : test ≡ false → p < length last → doc.begin i ≤ doc.end i → Pass (set last p (doc.end i)) (i + 1)

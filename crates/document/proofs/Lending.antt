@@ -9,8 +9,7 @@ use lib.IntN.{pos}
 use lib.Dec.{leb}
 use lib.ListN.{length, get_or, take, replicate, length-replicate}
 use Rattle.meaning.specs.declared.Node.{Node}
-use Rattle.meaning.specs.declared.Reading.{Reading}
-use Rattle.meaning.specs.declared.Reading.TheVariants.{Refused}
+use Rattle.meaning.specs.Reading.{Reading, Refused}
 use Rattle.meaning.specs.Walk.{listed}
 use Rattle.meaning.specs.Block.{limit}
 use Rattle.meaning.specs.Document.{columns, of_nodes}

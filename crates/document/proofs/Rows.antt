@@ -1,4 +1,5 @@
 -- The tests of one record, as the record pass makes them, are those of the meaning.
+use Rattle.std.specs.Prelude.{Ok, Err, Result}
 use mathlib.Core.Path.{◌≡◌, refl, sym, ◌∙◌}
 use mathlib.Core.Bool.{Bool, true, false, ◌&&◌, ◌||◌, cond}
 use Prim.Native.Nat.{ℕ, zero, suc, ◌≤◌, ◌<◌}
@@ -6,26 +7,23 @@ use native.Mathlib.Omega.{arith}
 use lib.Dec.{leb, ltb, eqb}
 use borrow.Author.Tests.{ltb-true, lt-ltb, le-ltb}
 use Rattle.meaning.specs.declared.Node.{Node}
-use Rattle.meaning.specs.declared.Reading.{Reading}
-use Rattle.meaning.specs.declared.Reading.TheVariants.{Refused}
+use Rattle.meaning.specs.Reading.{Reading, Refused}
 use Rattle.meaning.specs.Order.{need, and_then}
 use Rattle.meaning.specs.Document.{Doc, node, is_item, is_version}
 use Rattle.meaning.specs.Nodes.{node_fields, parent_fits, depth, deepest, read_record}
 use Rattle.meaning.proofs.Basics.{and_l}
-use Rattle.document.specs.declared.records.Decoded.{Decoded}
-use Rattle.document.specs.declared.records.Decoded.TheVariants as D
 use Rattle.document.specs.Decoding.{decoded}
 
 -- 4 and 5: what is decoded, by the two tests
-abbrev by : Bool → Bool → Node → Decoded
-by a b n = cond a (cond b (D.Node n) (D.Refused 5)) (D.Refused 4)
+abbrev by : Bool → Bool → Node → Result Node ℕ
+by a b n = cond a (cond b (Ok n) (Err 5)) (Err 4)
 
-by-node : (a b : Bool) (n m : Node) → by a b n ≡ D.Node m → (a ≡ true) × (b ≡ true) × (n ≡ m)
+by-node : (a b : Bool) (n m : Node) → by a b n ≡ Ok m → (a ≡ true) × (b ≡ true) × (n ≡ m)
 by-node true true n m e = (refl, refl, cc)
 by-node true false n m e = let z : ◌≡◌ {A = ℕ} 0 1 = cc in absurd (omega arith)
 by-node false b n m e = let z : ◌≡◌ {A = ℕ} 0 1 = cc in absurd (omega arith)
 
-by-refused : (a b : Bool) (n : Node) (k i : ℕ) (rest : Reading) → by a b n ≡ D.Refused k
+by-refused : (a b : Bool) (n : Node) (k i : ℕ) (rest : Reading) → by a b n ≡ Err k
     → and_then (need a 4 i) (and_then (need b 5 i) rest) ≡ Refused k i
 by-refused true true n k i rest e = let z : ◌≡◌ {A = ℕ} 0 1 = cc in absurd (omega arith)
 by-refused true false n k i rest e = let z : 5 ≡ k = cc in rw z
@@ -36,11 +34,11 @@ module _ (doc : Doc) (i : ℕ) where
   abbrev later : Reading
   later = and_then (need (parent_fits doc i) 6 i) (need (leb (depth doc i) deepest) 8 i)
 
-  pub record_refused : (k : ℕ) → decoded (node doc i) ≡ D.Refused k → read_record doc i ≡ Refused k i
+  pub record_refused : (k : ℕ) → decoded (node doc i) ≡ Err k → read_record doc i ≡ Refused k i
   unfolding decoded read_record
   record_refused k e = by-refused (eqb (doc.spare i) 0) (node_fields (node doc i)) (node doc i) k i later e
 
-  module _ (n : Node) (e : decoded (node doc i) ≡ D.Node n) where
+  module _ (n : Node) (e : decoded (node doc i) ≡ Ok n) where
     tests : (eqb (doc.spare i) 0 ≡ true) × (node_fields (node doc i) ≡ true) × (node doc i ≡ n)
     unfolding decoded
     tests = by-node (eqb (doc.spare i) 0) (node_fields (node doc i)) (node doc i) n e

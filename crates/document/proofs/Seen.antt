@@ -1,4 +1,5 @@
 -- Where the record pass stands at record i: every lower record was accepted, and its depth is kept. How it goes on from there.
+use Rattle.std.specs.Prelude.{Ok, Err, Result}
 use mathlib.Core.Path.{◌≡◌, sym, ◌∙◌, ap}
 use mathlib.Core.Logic.{⊎_elim}
 use mathlib.Core.Bool.{true, false}
@@ -11,7 +12,7 @@ use lib.Seq.{get_or-set_same, get_or-set_other}
 use borrow.Author.Count.{below_more}
 use borrow.Author.Tests.{lt-leb, le-leb, ne_eqb}
 use Rattle.meaning.specs.declared.Node.{Node}
-use Rattle.meaning.specs.declared.Reading.TheVariants.{Accepted, Refused}
+use Rattle.meaning.specs.Reading.{Accepted, Refused}
 use Rattle.meaning.specs.Order.{need, and_then, earliest}
 use Rattle.meaning.specs.Document.{Doc, node}
 use Rattle.meaning.specs.Nodes.{parent_fits, depth, deepest, read_record}
@@ -19,9 +20,7 @@ use Rattle.meaning.proofs.Basics.{le_or_lt}
 use Rattle.meaning.proofs.Says.{says}
 use Rattle.meaning.proofs.Orders.{all-earliest}
 use Rattle.meaning.proofs.Records.{depth-root, depth-up}
-use Rattle.document.specs.declared.records.Decoded.{Decoded}
-use Rattle.document.specs.declared.records.Decoded.TheVariants as D
-use Rattle.document.specs.Decoding.{decoded, number_in, depth_by}
+use Rattle.document.specs.Decoding.{decoded, depth_by}
 use Rattle.document.proofs.Early.{earliest-at}
 use Rattle.document.proofs.Rows.{record_refused, decoded-node, record_later, fits-lower}
 
@@ -70,25 +69,25 @@ module _ (doc : Doc) where
           (le_or_lt i 0)
 
     -- record i, as it was gathered and decoded
-    module _ (h : i < doc.size) (g : Node) (d : Decoded) (is : g ≡ node doc i) (by : d ≡ decoded g) where
+    module _ (h : i < doc.size) (g : Node) (d : Result Node ℕ) (is : g ≡ node doc i) (by : d ≡ decoded g) where
       abbrev Answer : ℕ → Type 0
       Answer k = Refused k i ≡ earliest (read_record doc) 0 doc.size
 
       hit : (k : ℕ) → read_record doc i ≡ Refused k i → Answer k
       hit k e = sym (earliest-at (read_record doc) i k i 0 doc.size (omega arith) (omega arith) e (λ j a b. s.accepted j b))
 
-      told : (x : Decoded) → d ≡ x → decoded (node doc i) ≡ x
+      told : (x : Result Node ℕ) → d ≡ x → decoded (node doc i) ≡ x
       told x e = ap decoded (sym is) ∙ sym by ∙ e
 
-      pub seen-refused : (j k : ℕ) → d ≡ D.Refused j → k ≡ number_in d → Answer k
-      seen-refused j k e q = let same : k ≡ j = q ∙ ap number_in e in rw same (hit j (record_refused doc i j (told (D.Refused j) e)))
+      pub seen-refused : (j : ℕ) → d ≡ Err j → Answer j
+      seen-refused j e = hit j (record_refused doc i j (told (Err j) e))
 
-      module _ (n : Node) (e : d ≡ D.Node n) where
+      module _ (n : Node) (e : d ≡ Ok n) where
         later : read_record doc i ≡ and_then (need (parent_fits doc i) 6 i) (need (leb (depth doc i) deepest) 8 i)
-        later = record_later doc i n (told (D.Node n) e)
+        later = record_later doc i n (told (Ok n) e)
 
         pub seen-node : node doc i ≡ n
-        seen-node = decoded-node doc i n (told (D.Node n) e)
+        seen-node = decoded-node doc i n (told (Ok n) e)
 
         pub seen-6 : parent_fits doc i ≡ false → Answer 6
         seen-6 f = hit 6 (later ∙ rw f)

@@ -6,11 +6,9 @@ use mathlib.Core.List.{List, []}
 use Prim.Native.Nat.{ℕ, zero, suc}
 use lib.IntN.{ℤ}
 use lib.ListN.{length, get_or}
-use Rattle.meaning.specs.declared.Found.{Found}
-use Rattle.meaning.specs.declared.Found.TheVariants.{At, Nothing}
-use Rattle.meaning.specs.declared.Reading.{Reading}
-use Rattle.meaning.specs.declared.Reading.TheVariants.{Accepted, Refused}
-use Rattle.meaning.specs.Walk.{first, on_found}
+use Rattle.std.specs.Prelude.{Some, None, Err}
+use Rattle.meaning.specs.Reading.{Reading, Accepted, Refused}
+use Rattle.meaning.specs.Walk.{first, on_found, Found}
 use Rattle.meaning.specs.Order.{need, and_then, earliest, in_order}
 use Rattle.meaning.specs.Document.{Doc, columns, version_of}
 use Rattle.meaning.specs.Nodes.{read_record, misplaced, share_day, overlap, clash, clashes, whole_from, whole, document_tests, accept}
@@ -29,7 +27,7 @@ ap₃ f p q r = λ i. f (p i) (q i) (r i)
 
 ends : (x : Reading) → and_then x Accepted ≡ x
 ends Accepted = refl
-ends (Refused number place) = refl
+ends (Err why) = refl
 
 -- the four tests in their order
 pub accept-stages : (doc : Doc) → accept doc
@@ -69,16 +67,16 @@ module _ (kinds vkinds names parents begins ends' : List ℕ) (values : List ℤ
 
     -- .. by 7, ..
     module _ (ax : x ≡ Accepted) {y : Found} (ey : y ≡ first (misplaced some) 0 (length kinds)) where
-      pub by_place : {v : ℕ} → y ≡ At v → Refused 7 v ≡ accept doc
+      pub by_place : {v : ℕ} → y ≡ Some v → Refused 7 v ≡ accept doc
       by_place r = sym (accept-stages doc ∙ rw (sym ex ∙ ax, sym (first-misplaced_same kinds vkinds names parents begins ends' values items spares) ∙ sym ey ∙ r))
 
       -- .. by 9, ..
-      module _ (ny : y ≡ Nothing) {z : Found} (ez : z ≡ first (clashes (columns kinds [] names parents begins ends' [] items [])) 0 (length kinds)) where
-        pub by-clash : {i : ℕ} → z ≡ At i → Refused 9 i ≡ accept doc
+      module _ (ny : y ≡ None) {z : Found} (ez : z ≡ first (clashes (columns kinds [] names parents begins ends' [] items [])) 0 (length kinds)) where
+        pub by-clash : {i : ℕ} → z ≡ Some i → Refused 9 i ≡ accept doc
         by-clash r = sym (accept-stages doc ∙ rw (sym ex ∙ ax, sym (first-misplaced_same kinds vkinds names parents begins ends' values items spares) ∙ sym ey ∙ ny, sym clashes-same ∙ sym ez ∙ r))
 
         -- .. or the root decides
-        pub by-root : (t : Bool) {w : Bool} → z ≡ Nothing → w ≡ whole some → w ≡ t → need t 10 0 ≡ accept doc
+        pub by-root : (t : Bool) {w : Bool} → z ≡ None → w ≡ whole some → w ≡ t → need t 10 0 ≡ accept doc
         by-root t nz ew et =
             sym (accept-stages doc
             ∙ rw (sym ex ∙ ax, sym (first-misplaced_same kinds vkinds names parents begins ends' values items spares) ∙ sym ey ∙ ny, sym clashes-same ∙ sym ez ∙ nz, sym whole_same ∙ sym ew ∙ et))

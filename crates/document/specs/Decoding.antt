@@ -1,18 +1,11 @@
 -- What the code of the record pass works out in between: one record decoded (MEANING 13: 4 and 5), and a depth by the depths of lower records.
-use Rattle.std.specs.Prelude.{ℕ, ◌+◌, cond, List, eqb, get_or}
+use Rattle.std.specs.Prelude.{ℕ, ◌+◌, cond, List, eqb, get_or, Result, Ok, Err}
 use Rattle.meaning.specs.declared.Node.{Node}
 use Rattle.meaning.specs.Nodes.{node_fields}
-use Rattle.document.specs.declared.records.Decoded.{Decoded}
-use Rattle.document.specs.declared.records.Decoded.TheVariants as D
 
 -- the record where its spare bytes are 0 and its fields fit, else the number of the refusal
-unfoldable pub decoded : Node → Decoded
-decoded n = cond (eqb n.spare 0) (cond (node_fields n) (D.Node n) (D.Refused 5)) (D.Refused 4)
-
--- the number of a refusal
-abbrev pub number_in : Decoded → ℕ
-number_in (D.Node n) = 0
-number_in (D.Refused k) = k
+unfoldable pub decoded : Node → Result Node ℕ
+decoded n = cond (eqb n.spare 0) (cond (node_fields n) (Ok n) (Err 5)) (Err 4)
 
 -- the depth of record i, of this kind and with this parent, where the depths of lower records stand in a list
 unfoldable pub depth_by : ℕ → ℕ → List ℕ → ℕ → ℕ

@@ -5,3 +5,4 @@ pub mod Decoding
 pub mod Steady
 pub mod Level
 pub mod Meet
+pub mod Threads

@@ -2,6 +2,7 @@
 use Rattle.std.specs.Prelude.{◌≡◌, List, [], ℕ, ◌<◌, ◌≤◌, length, get_or}
 use Rattle.meaning.specs.Document.{Doc, columns}
 use Rattle.meaning.specs.Block.{limit}
+use Rattle.columns.specs.declared.Records.{Records}
 
 -- the document in the columns that 7 reads
 abbrev pub periods : List ℕ → List ℕ → List ℕ → List ℕ → Doc
@@ -29,3 +30,13 @@ pub record Way (parents begins ends : List ℕ) (v p : ℕ) : Type 0 where
   pub is : p ≡ get_or parents v 0
   pub lower : p < v
   pub over : (p ≡ 0 → ⊥) → get_or parents p 0 < p
+
+-- the same of columns that are lent together
+abbrev pub periods_in : Records → Doc
+periods_in r = periods r.kind.now r.parent.now r.begin.now r.end.now
+
+abbrev pub PlacingBy : Records → Type 0
+PlacingBy r = Placing r.kind.now r.parent.now r.begin.now r.end.now
+
+abbrev pub WayBy : Records → ℕ → ℕ → Type 0
+WayBy r = Way r.parent.now r.begin.now r.end.now

@@ -2,11 +2,11 @@
 #![tactic(auto)]
 
 ghost use Rattle.std.specs.Prelude.{◌≡◌};
-ghost use Rattle.meaning.specs.Document.{columns};
 ghost use Rattle.meaning.specs.Nodes.{accept};
-ghost use Rattle.document.specs.Columns.{Even};
+ghost use Rattle.document.specs.Columns.{EvenBy, doc_in};
 
-use meaning::{Found, Reading};
+use columns::Records;
+use meaning::Refusal;
 
 pub mod records; // records.rt: 4, 5, 6, 8, record by record
 pub mod placing; // placing.rt: 7, version by version
@@ -16,34 +16,30 @@ pub mod front; // front.rt: records in the first entries of longer columns
 
 // Everything that is asked of a document, in its order: 4, 5, 6, 8 record by record, then 7, then 9, then 10.
 // Cost: two passes over the records, the pairs of items that share a key, and one more pass.
-pub fn accept_columns(
-    kind: &[u8],
-    vkind: &[u8],
-    name: &[u16],
-    parent: &[u16],
-    begin: &[u16],
-    end: &[u16],
-    value: &[i32],
-    item: &[u32],
-    spare: &[u16],
-) -> Reading
-    requires { Even kind.now vkind.now name.now parent.now begin.now end.now value.now item.now spare.now }
-    ensures { result ≡ accept (columns kind.now vkind.now name.now parent.now begin.now end.now value.now item.now spare.now) }
+pub fn accept_columns(records: Records<'_>, spare: &[u16]) -> Result<(), Refusal>
+    requires { EvenBy records spare.now }
+    ensures { result ≡ accept (doc_in records.entry spare.now) }
 {
-    let read = records::read_records(kind, vkind, name, parent, begin, end, value, item, spare);
-    let Reading::Accepted = read else {
-        return read;
-    };
-    let misplaced = placing::first_misplaced(kind, parent, begin, end);
-    if let Found::At(v) = misplaced {
-        return Reading::Refused(7, v);
+    records::read_records(records, spare)?;
+    let misplaced = placing::first_misplaced(records);
+    if let Some(v) = misplaced {
+        return Err(Refusal {
+            number: 7,
+            place: v,
+        });
     }
-    let clash = clash::first_clash(kind, name, parent, begin, end, item);
-    if let Found::At(i) = clash {
-        return Reading::Refused(9, i);
+    let clash = clash::first_clash(records);
+    if let Some(i) = clash {
+        return Err(Refusal {
+            number: 9,
+            place: i,
+        });
     }
-    if root::is_whole(kind, parent, begin, end) {
-        return Reading::Accepted;
+    if root::is_whole(records) {
+        return Ok(());
     }
-    Reading::Refused(10, 0)
+    Err(Refusal {
+        number: 10,
+        place: 0,
+    })
 }

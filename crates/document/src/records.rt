@@ -3,22 +3,15 @@ ghost use Rattle.std.specs.Prelude.{◌≡◌, [], ◌<◌, ◌≤◌, length, g
 ghost use Rattle.meaning.specs.Document.{columns, node};
 ghost use Rattle.meaning.specs.Nodes.{item_fields, version_fields, parent_fits, deepest, read_record};
 ghost use Rattle.meaning.specs.Order.{earliest};
-ghost use Rattle.document.specs.Columns.{Even};
-ghost use Rattle.document.specs.Decoding.{decoded, number_in, depth_by};
+ghost use Rattle.document.specs.Columns.{EvenBy, doc_in};
+ghost use Rattle.document.specs.Decoding.{decoded, depth_by};
 
-use columns::LIMIT;
-use meaning::{Node, Reading};
+use columns::{LIMIT, Records};
+use meaning::{Node, Refusal};
 use numbers::index;
 
 // The most items on the way from the root to an item.
 const DEEPEST: u8 = 8;
-
-// What comes of one record by itself: the record, or the number of the test that it fails.
-#[derive(Clone, Copy)]
-pub enum Decoded {
-    Node(Node),
-    Refused(usize),
-}
 
 // 5: the table's column for an item.
 fn item_fields(n: Node) -> bool
@@ -50,55 +43,34 @@ fn version_fields(n: Node) -> bool
         & (n.item == 0)
 }
 
-// 4, then 5: a record by itself.
-fn decode(n: Node) -> Decoded
+// 4, then 5: a record by itself, or the number of the test that it fails.
+fn decode(n: Node) -> Result<Node, usize>
     ensures { result ≡ decoded n }
 {
     if n.spare != 0 {
-        return Decoded::Refused(4);
+        return Err(4);
     }
     if item_fields(n) | version_fields(n) {
-        return Decoded::Node(n);
+        return Ok(n);
     }
-    Decoded::Refused(5)
-}
-
-// The number of the test that a record failed, 0 for one that failed none.
-fn number(d: Decoded) -> usize
-    ensures { result ≡ number_in d }
-{
-    match d {
-        Decoded::Node(_) => 0,
-        Decoded::Refused(k) => k,
-    }
+    Err(5)
 }
 
 // Record i, its fields together.
-fn gather(
-    kind: &[u8],
-    vkind: &[u8],
-    name: &[u16],
-    parent: &[u16],
-    begin: &[u16],
-    end: &[u16],
-    value: &[i32],
-    item: &[u32],
-    spare: &[u16],
-    i: usize,
-) -> Node
-    requires even { Even kind.now vkind.now name.now parent.now begin.now end.now value.now item.now spare.now }
-    requires i_in_bounds { i < length kind.now }
-    ensures { result ≡ node (columns kind.now vkind.now name.now parent.now begin.now end.now value.now item.now spare.now) i }
+fn gather(records: Records<'_>, spare: &[u16], i: usize) -> Node
+    requires even { EvenBy records spare.now }
+    requires i_in_bounds { i < length records.kind.now }
+    ensures { result ≡ node (doc_in records.entry spare.now) i }
 {
     Node {
-        kind: kind[i],
-        vkind: vkind[i],
-        name: name[i],
-        parent: parent[i],
-        begin: begin[i],
-        end: end[i],
-        value: value[i],
-        item: item[i],
+        kind: records.kind[i],
+        vkind: records.vkind[i],
+        name: records.name[i],
+        parent: records.parent[i],
+        begin: records.begin[i],
+        end: records.end[i],
+        value: records.value[i],
+        item: records.item[i],
         spare: spare[i],
     }
 }
@@ -135,36 +107,31 @@ fn depth_at(kind: u8, parent: u16, deep: &[u8], i: usize) -> u8
 
 // The first refusal by 4, 5, 6 or 8, record by record. Each record is looked at once, with its parent's kind and depth:
 // the cost is linear in the number of records.
-pub fn read_records(
-    kind: &[u8],
-    vkind: &[u8],
-    name: &[u16],
-    parent: &[u16],
-    begin: &[u16],
-    end: &[u16],
-    value: &[i32],
-    item: &[u32],
-    spare: &[u16],
-) -> Reading
-    requires { Even kind.now vkind.now name.now parent.now begin.now end.now value.now item.now spare.now }
-    ensures { result ≡ earliest (read_record (columns kind.now vkind.now name.now parent.now begin.now end.now value.now item.now spare.now)) 0 (length kind.now) }
+pub fn read_records(records: Records<'_>, spare: &[u16]) -> Result<(), Refusal>
+    requires { EvenBy records spare.now }
+    ensures { result ≡ earliest (read_record (doc_in records.entry spare.now)) 0 (length records.entry.kind.now) }
 {
     let mut deep = [0u8; LIMIT];
-    let mut i = 0;
-    while i < kind.len() {
-        let d = decode(gather(kind, vkind, name, parent, begin, end, value, item, spare, i));
-        let Decoded::Node(n) = d else {
-            return Reading::Refused(number(d), i);
+    for i in 0..records.kind.len() {
+        let node = gather(records, spare, i);
+        let n = match decode(node) {
+            Ok(n) => n,
+            Err(number) => return Err(Refusal { number, place: i }),
         };
-        if !parent_fits(kind, parent, i) {
-            return Reading::Refused(6, i);
+        if !parent_fits(records.kind, records.parent, i) {
+            return Err(Refusal {
+                number: 6,
+                place: i,
+            });
         }
         let x = depth_at(n.kind, n.parent, &deep, i);
         if DEEPEST < x {
-            return Reading::Refused(8, i);
+            return Err(Refusal {
+                number: 8,
+                place: i,
+            });
         }
         deep[i] = x;
-        i += 1;
     }
-    Reading::Accepted
+    Ok(())
 }

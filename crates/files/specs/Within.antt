@@ -1,8 +1,7 @@
 -- What reading into a buffer promises: a count that was read is within the buffer.
-use Rattle.std.specs.Prelude.{ℕ, ◌≤◌}
-use Rattle.files.specs.declared.Got.{Got}
-use Rattle.files.specs.declared.Got.TheVariants.{Bytes, Unreadable}
+use Rattle.std.specs.Prelude.{ℕ, ◌≤◌, Result, Ok, Err}
+use Rattle.files.specs.declared.Unreadable.{Unreadable}
 
-abbrev pub Within : Got → ℕ → Type 0
-Within (Bytes n) room = n ≤ room
-Within Unreadable room = Unit {0}
+abbrev pub Within : Result ℕ Unreadable → ℕ → Type 0
+Within (Ok n) room = n ≤ room
+Within (Err _) room = Unit {0}

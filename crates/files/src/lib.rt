@@ -10,71 +10,74 @@ ghost use Rattle.files.specs.Taken.{TakenOnce, TakenAll};
 use std::fs::{File, OpenFile};
 use std::io::{Read, Write};
 use std::rt::Files;
-use std::{fs, str};
+use std::str::Utf8Error;
+use std::{fs, io, str};
 
-// What reading a file comes to: how many bytes of the buffer are its own, or that it cannot be read.
+// That a file or a reader cannot be read.
 #[derive(Clone, Copy)]
-pub enum Got {
-    Bytes(usize),
-    Unreadable,
-}
+pub struct Unreadable;
 
-// One call of the reader's read.
-fn one_read<R: Read>(reader: &mut R, part: &mut [u8]) -> Got
-    ensures within { Within result (length part.old) }
-    ensures taken { TakenOnce (R.remaining reader.old) (R.remaining reader.new) result part.new }
-{
-    match reader.read(part) {
-        Ok(n) => Got::Bytes(n),
-        Err(_) => Got::Unreadable,
+// Whatever the operating system says.
+impl From<io::Error> for Unreadable {
+    fn from(_: io::Error) -> Unreadable {
+        Unreadable
     }
 }
 
-// Reads until the buffer is full or the reader ends.
-pub fn fill_from<R: Read>(reader: &mut R, buf: &mut [u8]) -> Got
+// A name that is no text names no file that the library opens.
+impl From<Utf8Error> for Unreadable {
+    fn from(_: Utf8Error) -> Unreadable {
+        Unreadable
+    }
+}
+
+// One call of the reader's read.
+fn one_read<R: Read>(reader: &mut R, part: &mut [u8]) -> Result<usize, Unreadable>
+    ensures within { Within result (length part.old) }
+    ensures taken { TakenOnce (R.remaining reader.old) (R.remaining reader.new) result part.new }
+{
+    Ok(reader.read(part)?)
+}
+
+// Reads until the buffer is full or the reader ends: how many bytes of the buffer are the reader's own.
+pub fn fill_from<R: Read>(reader: &mut R, buf: &mut [u8]) -> Result<usize, Unreadable>
     ensures within { Within result (length buf.old) }
     ensures taken { TakenAll (R.remaining reader.old) (R.remaining reader.new) result buf.new }
 {
     let mut at = 0;
+    // a while: `at` goes on by as many bytes as one read brings
     while at < buf.len() {
-        let Got::Bytes(n) = one_read(reader, &mut buf[at..]) else {
-            return Got::Unreadable;
-        };
+        let n = one_read(reader, &mut buf[at..])?;
         if n == 0 {
-            return Got::Bytes(at);
+            return Ok(at);
         }
         at += n;
     }
-    Got::Bytes(at)
+    Ok(at)
 }
 
 // The same of the file of this name.
-fn load_named(rt: &impl Files, path: &str, buf: &mut [u8]) -> Got
+fn load_named(rt: &impl Files, path: &str, buf: &mut [u8]) -> Result<usize, Unreadable>
     ensures { Within result (length buf.old) }
 {
-    match File::open(rt, path) {
-        Ok(mut file) => fill_from(&mut file, buf),
-        Err(_) => Got::Unreadable,
-    }
+    let mut file = File::open(rt, path)?;
+    fill_from(&mut file, buf)
 }
 
 // The front of the file of this name, as much as the buffer holds. A buffer one byte longer than the largest good file
 // tells a longer one by its length. A directory can be opened and not read: it is unreadable. The library opens files by names
 // that are text, so a name that is none is unreadable too.
-pub fn load(rt: &impl Files, path: &[u8], buf: &mut [u8]) -> Got
+pub fn load(rt: &impl Files, path: &[u8], buf: &mut [u8]) -> Result<usize, Unreadable>
     ensures { Within result (length buf.old) }
 {
-    match str::from_utf8(path) {
-        Ok(name) => load_named(rt, name, buf),
-        Err(_) => Got::Unreadable,
-    }
+    load_named(rt, str::from_utf8(path)?, buf)
 }
 
 // Whether the reader's next bytes fill the part.
 pub fn filled<R: Read>(reader: &mut R, part: &mut [u8]) -> bool
     ensures { IsTrue result → Consumes (R.remaining reader.old) (R.remaining reader.new) part.new }
 {
-    let Got::Bytes(n) = fill_from(reader, part) else {
+    let Ok(n) = fill_from(reader, part) else {
         return false;
     };
     n == part.len()
@@ -91,18 +94,17 @@ pub fn filled_front<R: Read>(reader: &mut R, n: usize, buf: &mut [u8]) -> bool
     filled(reader, &mut buf[0..n])
 }
 
-// A new file of this name with these bytes, whole and handed to the disk: whether that was done. A file of that name is not written to.
-fn make(rt: &impl Files, path: &str, bytes: &[u8]) -> bool {
-    match File::create_new(rt, path) {
-        Ok(mut file) => file.write_all(bytes).is_ok() && file.sync_all().is_ok(),
-        Err(_) => false,
-    }
+// A new file of this name with these bytes, whole and handed to the disk. A file of that name is not written to.
+fn make(rt: &impl Files, path: &str, bytes: &[u8]) -> io::Result<()> {
+    let mut file = File::create_new(rt, path)?;
+    file.write_all(bytes)?;
+    file.sync_all()
 }
 
 // The same of files of these names.
 fn replace_named(rt: &impl Files, path: &str, part: &str, bytes: &[u8]) -> bool {
     let _ = fs::remove_file(rt, part);
-    if make(rt, part, bytes) && fs::rename(rt, part, path).is_ok() {
+    if make(rt, part, bytes).is_ok() && fs::rename(rt, part, path).is_ok() {
         return true;
     }
     let _ = fs::remove_file(rt, part);
@@ -113,11 +115,8 @@ fn replace_named(rt: &impl Files, path: &str, part: &str, bytes: &[u8]) -> bool 
 // done: if not, `path` is as it was. No `part` is left where it can be removed, be it of a run that was broken off. The library makes files by
 // names that are text, so nothing is done where one is none.
 pub fn replace(rt: &impl Files, path: &[u8], part: &[u8], bytes: &[u8]) -> bool {
-    match str::from_utf8(path) {
-        Ok(path) => match str::from_utf8(part) {
-            Ok(part) => replace_named(rt, path, part, bytes),
-            Err(_) => false,
-        },
-        Err(_) => false,
+    match (str::from_utf8(path), str::from_utf8(part)) {
+        (Ok(path), Ok(part)) => replace_named(rt, path, part, bytes),
+        _ => false,
     }
 }

@@ -7,7 +7,7 @@ use native.Mathlib.Omega.{arith}
 use borrow.Author.Tests.{eqb-true, eq-eqb}
 use lib.Dec.{eqb}
 use lib.ListN.{length, get_or}
-use Rattle.meaning.specs.declared.Found.TheVariants.{At}
+use Rattle.std.specs.Prelude.{Some}
 use Rattle.meaning.specs.Walk.{first}
 use Rattle.meaning.specs.Document.{Doc, is_version, number_of}
 use Rattle.meaning.proofs.Basics.{tests_same}
@@ -30,7 +30,7 @@ module _ (doc : Doc) where
       tests_same (eqb (number_of doc u) (number_of doc v)) (eqb x y)
       (λ e.
       let n = ap (λ a. first (numbered doc a) 0 doc.size) (eqb-true (number_of doc u) (number_of doc v) e) in
-      let t : At x ≡ At y = sym (c.of_version k) ∙ n ∙ d.of_version l in
+      let t : Some x ≡ Some y = sym (c.of_version k) ∙ n ∙ d.of_version l in
       let z : x ≡ y = cc in
       eq-eqb x y z)
       (λ e. eq-eqb (number_of doc u) (number_of doc v) (sym (of_number u x k c) ∙ ap doc.item (eqb-true x y e) ∙ of_number v y l d))

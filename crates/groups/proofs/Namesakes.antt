@@ -6,7 +6,7 @@ use Prim.Native.Nat.{ℕ, ◌≤◌, ◌<◌}
 use native.Mathlib.Omega.{arith}
 use borrow.Author.Tests.{eq-eqb}
 use lib.ListN.{length, get_or}
-use Rattle.meaning.specs.declared.Found.TheVariants.{At}
+use Rattle.std.specs.Prelude.{Some}
 use Rattle.meaning.specs.Walk.{first}
 use Rattle.meaning.specs.Document.{Doc}
 use Rattle.meaning.proofs.Walks.{first-at}
@@ -22,7 +22,7 @@ module _ (kinds parents items : List ℕ) (i : ℕ) (h : i < length kinds) (k : 
   f = numbered doc (doc.item i)
 
   -- x is the lowest item of the number of i
-  classed : (x : ℕ) → x ≤ i → first f 0 doc.size ≡ At x → Class doc i x
+  classed : (x : ℕ) → x ≤ i → first f 0 doc.size ≡ Some x → Class doc i x
   classed x l e = record { low = l; of_item = λ _. e; of_version = λ q. let z = simp says at q in absurd (omega arith) }
 
   pub class-by : (classes : List ℕ) → ClassedBelow doc i classes → j < i → Class doc i (get_or classes j 0)

@@ -5,31 +5,30 @@ ghost use Rattle.std.specs.Prelude.{◌≡◌, ℕ, ◌<◌, ◌≤◌, length, 
 ghost use Rattle.meaning.specs.declared.Rule.{Rule};
 ghost use Rattle.meaning.specs.Document.{Doc};
 ghost use Rattle.meaning.specs.Block.{limit};
-ghost use Rattle.columns.specs.Lent.{Lends, Numbers};
+ghost use Rattle.columns.specs.Lent.{Lends, NumbersOf};
 ghost use Rattle.columns.specs.Judgeable.{Judgeable};
-ghost use Rattle.columns.specs.Chains.{Twins};
 ghost use Rattle.prepare.specs.Keys.{Keys};
 ghost use Rattle.groups.specs.Groups.{Groups, Gathered};
-ghost use Rattle.groups.specs.Classes.{Nested, held, Class, ClassedBelow, class_at};
+ghost use Rattle.groups.specs.Classes.{document, Chained, Class, ClassedBelow, class_at};
 
-use columns::LIMIT;
 use columns::chains::{Links, buckets, chain, namesake};
+use columns::{LIMIT, Records};
 use numbers::index;
+
+// The columns of a document, and its items chained by a key: `twin` leads from each item down to the next lower one of its key.
+#[derive(Clone, Copy)]
+struct Nest<'a> {
+    records: Records<'a>,
+    twin: &'a [u16],
+}
 
 // The class of item i, given those of the records below it: that of a lower item of its number, or i itself where there is none.
 // Cost: that of `namesake`.
-fn class_of_item(
-    kind: &[u8],
-    parent: &[u16],
-    item: &[u32],
-    twin: &[u16],
-    class: &[u16],
-    i: usize,
-) -> u16
-    requires { Nested kind.now parent.now item.now × Twins (held kind.now parent.now item.now) twin.now × (length kind.now ≤ length class.now) × (i < length kind.now) × ClassedBelow (held kind.now parent.now item.now) i class.now × (get_or kind.now i 0 ≡ 1) }
-    ensures { Class (held kind.now parent.now item.now) i result }
+fn class_of_item(nest: Nest, class: &[u16], i: usize) -> u16
+    requires { Chained nest × (length nest.records.kind.now ≤ length class.now) × (i < length nest.records.kind.now) × ClassedBelow (document nest) i class.now × (get_or nest.records.kind.now i 0 ≡ 1) }
+    ensures { Class (document nest.entry) i result }
 {
-    let j = namesake(kind, item, twin, i);
+    let j = namesake(nest.records.kind, nest.records.item, nest.twin, i);
     if j < i {
         return class[j];
     }
@@ -38,44 +37,45 @@ fn class_of_item(
 
 // The class of record i, given those of the records below it: for a version that of its item; 0 for one that is neither item nor version.
 // The looks of an item, or one.
-fn class_of(kind: &[u8], parent: &[u16], item: &[u32], twin: &[u16], class: &[u16], i: usize) -> u16
-    requires { Nested kind.now parent.now item.now × Twins (held kind.now parent.now item.now) twin.now × (length kind.now ≤ length class.now) × (i < length kind.now) × ClassedBelow (held kind.now parent.now item.now) i class.now }
-    ensures { Class (held kind.now parent.now item.now) i result }
+fn class_of(nest: Nest, class: &[u16], i: usize) -> u16
+    requires { Chained nest × (length nest.records.kind.now ≤ length class.now) × (i < length nest.records.kind.now) × ClassedBelow (document nest) i class.now }
+    ensures { Class (document nest.entry) i result }
 {
-    if kind[i] == 1 {
-        return class_of_item(kind, parent, item, twin, class, i);
+    if nest.records.kind[i] == 1 {
+        return class_of_item(nest, class, i);
     }
-    if kind[i] == 2 {
-        let above = index(parent[i]);
+    if nest.records.kind[i] == 2 {
+        let above = index(nest.records.parent[i]);
         return class[above];
     }
     0
 }
 
 // The classes of all records, by the chains of items that share a key. Cost: the looks of each.
-fn classes(kind: &[u8], parent: &[u16], item: &[u32], twin: &[u16]) -> [u16; LIMIT]
-    requires { Nested kind.now parent.now item.now × Twins (held kind.now parent.now item.now) twin.now }
-    ensures { (length result ≡ limit) × ClassedBelow (held kind.now parent.now item.now) (length kind.now) result }
+fn classes(nest: Nest) -> [u16; LIMIT]
+    requires { Chained nest }
+    ensures { (length result ≡ limit) × ClassedBelow (document nest.entry) (length nest.entry.records.kind.now) result }
 {
     let mut class = [0u16; LIMIT];
-    let mut i = 0;
-    while i < kind.len() {
-        class[i] = class_of(kind, parent, item, twin, &class, i);
-        i += 1;
+    for i in 0..nest.records.kind.len() {
+        class[i] = class_of(nest, &class, i);
     }
     class
 }
 
 // A class for each version of a document, by its item number.
 // Cost: three passes over the columns where the keys of the items differ, and a look for each pair of items with one key at worst.
-pub fn group(kind: &[u8], parent: &[u16], item: &[u32]) -> [u16; LIMIT]
-    requires { (doc : Doc) × Numbers doc kind.now parent.now item.now × Judgeable doc }
-    ensures { (doc : Doc) → Numbers doc kind.now parent.now item.now → Groups doc result }
+pub fn group(records: Records<'_>) -> [u16; LIMIT]
+    requires { (doc : Doc) × NumbersOf doc records × Judgeable doc }
+    ensures { (doc : Doc) → NumbersOf doc records.entry → Groups doc result }
 {
-    let key = buckets(item);
-    let items = chain(kind, &key, 1);
+    let key = buckets(records.item);
+    let items = chain(records.kind, &key, 1);
     let twin = items.lower;
-    classes(kind, parent, item, &twin)
+    classes(Nest {
+        records,
+        twin: &twin,
+    })
 }
 
 // The class of the version v, of n; LIMIT, which has no chain, where v is none. Cost: one look.
@@ -95,10 +95,8 @@ pub fn class_keys(key: &[u16], groups: &[u16], n: usize, out: &mut [u16])
     requires { (n ≤ length key.now) × (n ≤ length groups.now) × (n ≤ length out.old) }
     ensures { (f : ℕ) → f < n → get_or out.new f 0 ≡ class_at groups.now n (get_or key.now f 0) }
 {
-    let mut f = 0;
-    while f < n {
+    for f in 0..n {
         out[f] = class_at(groups, n, key[f]);
-        f += 1;
     }
 }
 

@@ -6,9 +6,9 @@ use Prim.Native.Nat.{ℕ, suc, ◌+◌, ◌-◌, ◌*◌, ◌≤◌, ◌<◌}
 use native.Mathlib.Omega.{arith}
 use lib.ListN.{length}
 use borrow.Author.Tests.{eqb-true}
-use Rattle.meaning.specs.declared.Found.TheVariants.{At, Nothing}
-use Rattle.meaning.specs.declared.Rule.{Rule}
+use Rattle.std.specs.Prelude.{Some, None}
 use Rattle.meaning.specs.declared.Verdict.TheVariants.{Holds, Fails}
+use Rattle.meaning.specs.declared.Rule.{Rule}
 use Rattle.meaning.specs.Walk.{pick, first}
 use Rattle.meaning.specs.Document.{Doc}
 use Rattle.meaning.specs.Rules.{is_sequenced}
@@ -76,11 +76,11 @@ module _ (doc : Doc) (q r : Rule) (at : Places) (ok : Judgeable doc) (sequenced 
   offender-on k h = on-day k h ∙ ap (offender doc q r) (day-start k)
 
   -- the first j places have no offender
-  module _ (j : ℕ) (most : j ≤ at.count) (none : (i : ℕ) → i < j → offender_at doc q r (window_at at i) ≡ Nothing) where
-    none-on : (i : ℕ) → i < j → offender doc q r (r.begin + i) ≡ Nothing
+  module _ (j : ℕ) (most : j ≤ at.count) (none : (i : ℕ) → i < j → offender_at doc q r (window_at at i) ≡ None) where
+    none-on : (i : ℕ) → i < j → offender doc q r (r.begin + i) ≡ None
     none-on i h = sym (offender-on i (omega arith)) ∙ none i h
 
-    pub fails_on : j < at.count → {v n : ℕ} (m : ℕ) → offender_at doc q r (window_at at j) ≡ At v → n ≡ count_of doc q r m (end_of at j) → Fails (start_of at j) v n ≡ on_days doc q r
+    pub fails_on : j < at.count → {v n : ℕ} (m : ℕ) → offender_at doc q r (window_at at j) ≡ Some v → n ≡ count_of doc q r m (end_of at j) → Fails (start_of at j) v n ≡ on_days doc q r
     unfolding count_of
     fails_on h {v} {n} m e p =
         let past : end_of at j - r.begin ≡ suc j = omega (arith, day-end j h) in

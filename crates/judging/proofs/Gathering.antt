@@ -2,10 +2,10 @@
 use mathlib.Core.Path.{◌≡◌}
 use mathlib.Core.Bool.{true, false, ◌||◌}
 use mathlib.Core.List.{List}
-use Prim.Native.Nat.{ℕ, ◌-◌}
+use Prim.Native.Nat.{ℕ, ◌-◌, ◌≤◌}
 use native.Mathlib.Omega.{arith}
 use lib.IntN.{ℤ}
-use lib.ListN.{length, get_or, take, length-take}
+use lib.ListN.{length, get_or, take, replicate, length-take, length-replicate}
 use Rattle.meaning.specs.declared.Rule.{Rule}
 use Rattle.meaning.specs.Document.{Doc, is_version}
 use Rattle.meaning.specs.Rules.{is_key, is_unique, is_reference, is_sequenced}
@@ -26,10 +26,10 @@ use Rattle.places.specs.declared.Places.{Places}
 use Rattle.places.specs.Placing.{Counted}
 use Rattle.picking.proofs.Parts.{cut}
 use Rattle.orders.proofs.Lengths.{equally_long}
+use Rattle.judging.specs.Picking.{Room, Picked}
 use Rattle.soonest.specs.Given.{Given}
 use Rattle.survey.specs.Surveyed.{Surveyed}
 use Rattle.judging.specs.Knowing.{Known}
-use Rattle.judging.specs.Picking.{Picked}
 use Rattle.judging.specs.Armed.{Armed}
 use Rattle.judging.specs.Tally.{Traced}
 
@@ -50,6 +50,12 @@ module _ {doc : Doc} {kinds vkinds names parents begins ends : List ℕ} {values
 
   pub opened : InOrder (is_version doc) begins (take (many - 0) opens) (length (take (many - 0) opens))
   opened = cut (is_version doc) begins opens many s.opened
+
+-- arrays of a function's own have an entry for each of so many records
+pub roomy : {n m : ℕ} → n ≤ m → Room n (replicate m 0) (replicate m 0) (replicate m 0) (replicate m 0) (replicate m 0) (replicate m 0)
+roomy {n} {m} h =
+    let e : length (replicate {A = ℕ} m 0) ≡ m = length-replicate m 0 in
+    record { in_chosen = omega arith; in_rows = omega arith; in_reads = omega arith; in_left = omega arith; in_others = omega arith; in_helds = omega arith }
 
 -- what a rule picks out is all that it is judged by, if it is no reference
 pub picked_alone : {doc : Doc} {q r : Rule} {chosen rows reads : List ℕ} → (is_reference r ≡ true → ⊥) → Sifts doc r chosen rows reads → Picked doc q r chosen rows reads rows reads

@@ -4,10 +4,9 @@ use mathlib.Core.Bool.{Bool, true, false, ◌&&◌, ◌||◌, or-false}
 use Prim.Native.Nat.{ℕ, ◌≤◌, ◌<◌}
 use native.Mathlib.Omega.{arith}
 use lib.Dec.{eqb}
-use Rattle.meaning.specs.declared.Found.{Found}
-use Rattle.meaning.specs.declared.Found.TheVariants.{At, Nothing}
+use Rattle.std.specs.Prelude.{Some, None}
 use Rattle.meaning.specs.declared.Rule.{Rule}
-use Rattle.meaning.specs.Walk.{first}
+use Rattle.meaning.specs.Walk.{first, Found}
 use Rattle.meaning.specs.Document.{Doc}
 use Rattle.meaning.specs.Select.{present, has_nil}
 use Rattle.meaning.proofs.Basics.{or_l, or_r}
@@ -16,14 +15,14 @@ use Rattle.prepare.specs.Spoiling.{spoils}
 
 module _ (f g h : ℕ → Bool) (n : ℕ) (either : (v : ℕ) → h v ≡ (f v || g v)) where
   -- nothing passes the first
-  pub lower-second : {a b : Found} → a ≡ first f 0 n → b ≡ first g 0 n → a ≡ Nothing → b ≡ first h 0 n
+  pub lower-second : {a b : Found} → a ≡ first f 0 n → b ≡ first g 0 n → a ≡ None → b ≡ first h 0 n
   lower-second p q e = q ∙ first-same g h 0 n (λ v i j. sym (either v ∙ ap (λ t. t || g v) (first-nothing f 0 n (sym p ∙ e) v i j)))
 
   -- nothing passes the second
-  pub lower-first : {a b : Found} → a ≡ first f 0 n → b ≡ first g 0 n → b ≡ Nothing → a ≡ first h 0 n
+  pub lower-first : {a b : Found} → a ≡ first f 0 n → b ≡ first g 0 n → b ≡ None → a ≡ first h 0 n
   lower-first p q e = p ∙ first-same f h 0 n (λ v i j. sym (either v ∙ ap (λ t. f v || t) (first-nothing g 0 n (sym q ∙ e) v i j) ∙ or-false (f v)))
 
-  module _ {a b : Found} (p : a ≡ first f 0 n) (q : b ≡ first g 0 n) (u v : ℕ) (x : a ≡ At u) (y : b ≡ At v) where
+  module _ {a b : Found} (p : a ≡ first f 0 n) (q : b ≡ first g 0 n) (u v : ℕ) (x : a ≡ Some u) (y : b ≡ Some v) where
     pub lower-left : u < v → a ≡ first h 0 n
     lower-left l =
         let s = first_found f 0 n u (sym p ∙ x) in
@@ -42,7 +41,7 @@ module _ (f g h : ℕ → Bool) (n : ℕ) (either : (v : ℕ) → h v ≡ (f v |
 
 module _ (doc : Doc) (p : ℕ → Bool) (r : Rule) where
   -- a rule that is neither key nor reference is spoilt nowhere
-  pub never_spoilt : (eqb r.kind 1 || eqb r.kind 3) ≡ false → Nothing ≡ first (spoils doc p r) 0 doc.size
+  pub never_spoilt : (eqb r.kind 1 || eqb r.kind 3) ≡ false → None ≡ first (spoils doc p r) 0 doc.size
   unfolding spoils
   never_spoilt e = sym (first-none (spoils doc p r) 0 doc.size (λ v i j. rw e))
 

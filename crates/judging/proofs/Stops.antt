@@ -5,8 +5,8 @@ use mathlib.Core.Bool.{true, false}
 use Prim.Native.Nat.{ℕ, ◌+◌, ◌≤◌, ◌<◌}
 use native.Mathlib.Omega.{arith}
 use lib.Dec.{leb}
-use Rattle.meaning.specs.declared.Found.{Found}
-use Rattle.meaning.specs.declared.Found.TheVariants.{At, Nothing}
+use Rattle.meaning.specs.Walk.{Found}
+use Rattle.std.specs.Prelude.{Option, Some, None}
 use Rattle.meaning.specs.declared.Rule.{Rule}
 use Rattle.meaning.specs.Document.{Doc}
 use Rattle.meaning.specs.Rules.{is_sequenced, rule_fields}
@@ -23,12 +23,11 @@ use Rattle.places.specs.Placing.{start_of, end_of, window_at, Counted, Placed, o
 use Rattle.places.proofs.Bounds.{ends-by_close}
 use Rattle.places.proofs.Shortened.{shortened-at}
 use Rattle.judging.specs.declared.walking.Stop.{Stop}
-use Rattle.judging.specs.declared.walking.Stop.TheVariants.{Here, Nowhere}
 use Rattle.judging.specs.Stopping.{offender_at, Clear, Stands, Offended, Stopped}
 use Rattle.judging.proofs.DayVerdict.{there-day, day-end}
 
 module _ {doc : Doc} {q r : Rule} {at : Places} {k : ℕ} where
-  pub clear_next : {j : ℕ} → Clear doc q r at k j → offender_at doc q r (window_at at j) ≡ Nothing → Clear doc q r at k (j + 1)
+  pub clear_next : {j : ℕ} → Clear doc q r at k j → offender_at doc q r (window_at at j) ≡ None → Clear doc q r at k (j + 1)
   clear_next {j} c e =
       record {
         none = λ i l h.
@@ -43,17 +42,17 @@ module _ {doc : Doc} {q r : Rule} {at : Places} {k : ℕ} where
 
   -- the place asked about has an offender, or none and the walk goes on, or none is left
   module _ {here : Place} {j : ℕ} {x : Found} (s : Stands at here) (n : here.number ≡ j) (c : Clear doc q r at k j) (e : x ≡ offender_at doc q r (window_at at here.number)) where
-    pub offended : {v : ℕ} → x ≡ At v → Offended doc q r at k here v
+    pub offended : {v : ℕ} → x ≡ Some v → Offended doc q r at k here v
     offended p = record { stands = s; clear = rw n c; lowest = sym e ∙ p }
 
-    pub passed : x ≡ Nothing → Clear doc q r at k (j + 1)
+    pub passed : x ≡ None → Clear doc q r at k (j + 1)
     passed p = clear_next c (ap (λ (i : ℕ). offender_at doc q r (window_at at i)) (sym n) ∙ sym e ∙ p)
 
   -- what the walk came to, by its answer
-  pub stopped_here : {stop : Stop} {here : Place} {v : ℕ} → stop ≡ Here here v → Stopped doc q r at k stop → Offended doc q r at k here v
+  pub stopped_here : {found : Option Stop} {stop : Stop} → found ≡ Some stop → Stopped doc q r at k found → Offended doc q r at k stop.here stop.version
   stopped_here e s = rw e at s
 
-  pub stopped_nowhere : {stop : Stop} → stop ≡ Nowhere → Stopped doc q r at k stop → Clear doc q r at k at.count
+  pub stopped_nowhere : {found : Option Stop} → found ≡ None → Stopped doc q r at k found → Clear doc q r at k at.count
   stopped_nowhere e s = rw e at s
 
 -- at the start nothing is asked of any place, and none is left from the last one on

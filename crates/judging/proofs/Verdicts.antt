@@ -5,9 +5,9 @@ use mathlib.Core.Bool.{true, false≢true}
 use Prim.Native.Nat.{ℕ, ◌+◌, ◌≤◌, ◌<◌}
 use native.Mathlib.Omega.{arith}
 use borrow.Author.Tests.{eqb-true, eq-eqb}
-use Rattle.meaning.specs.declared.Found.TheVariants.{Nothing}
-use Rattle.meaning.specs.declared.Rule.{Rule}
+use Rattle.std.specs.Prelude.{None}
 use Rattle.meaning.specs.declared.Verdict.TheVariants.{Holds, Fails}
+use Rattle.meaning.specs.declared.Rule.{Rule}
 use Rattle.meaning.specs.Document.{Doc}
 use Rattle.meaning.specs.Rules.{is_sequenced, rule_fields}
 use Rattle.meaning.specs.Answer.{judged}
@@ -25,12 +25,12 @@ use Rattle.judging.proofs.DayVerdict.{fails_on, holds_on}
 use Rattle.judging.proofs.WindowVerdict.{fails_in, holds-in}
 
 module _ (doc : Doc) (q r : Rule) (at : Places) (k : ℕ) (soon : Soon doc q r at k) where
-  before : (i : ℕ) → i < at.count → i < k → offender_at doc q r (window_at at i) ≡ Nothing
+  before : (i : ℕ) → i < at.count → i < k → offender_at doc q r (window_at at i) ≡ None
   unfolding offender_at Soon
   before i h l = first-none (offends_at doc (window_at at i) q r) 0 doc.size (λ v a b. soon i v h l)
 
   -- no place below the one where the walk stopped has an offender
-  all-clear : {j : ℕ} → Clear doc q r at k j → j ≤ at.count → (i : ℕ) → i < j → offender_at doc q r (window_at at i) ≡ Nothing
+  all-clear : {j : ℕ} → Clear doc q r at k j → j ≤ at.count → (i : ℕ) → i < j → offender_at doc q r (window_at at i) ≡ None
   all-clear c most i h = ⊎_elim (λ l. c.none i l h) (λ l. before i (omega arith) l) (le_or_lt k i)
 
   module _ (ok : Judgeable doc) (fits : rule_fields r ≡ true) (placed : Placed r at) (counted : Counted at) where

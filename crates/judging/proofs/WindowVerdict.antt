@@ -7,13 +7,11 @@ use Prim.Native.Nat.{ℕ, zero, suc, ◌+◌, ◌-◌, ◌*◌, ◌<◌}
 use native.Mathlib.Omega.{arith}
 use lib.ListN.{length}
 use borrow.Author.Tests.{eq-eqb}
-use Rattle.calendar.specs.declared.Month.TheVariants.{Number}
+use Rattle.std.specs.Prelude.{Some, None}
 use Rattle.calendar.proofs.Months.{month_on-found, month_on-start}
-use Rattle.meaning.specs.declared.Found.{Found}
-use Rattle.meaning.specs.declared.Found.TheVariants.{At, Nothing}
-use Rattle.meaning.specs.declared.Rule.{Rule}
 use Rattle.meaning.specs.declared.Verdict.TheVariants.{Holds, Fails}
-use Rattle.meaning.specs.Walk.{first}
+use Rattle.meaning.specs.declared.Rule.{Rule}
+use Rattle.meaning.specs.Walk.{first, Found}
 use Rattle.meaning.specs.Document.{Doc}
 use Rattle.meaning.specs.Rules.{is_sequenced, rule_fields}
 use Rattle.meaning.specs.Window.{Window, offender_in, least, windows, judge, in_windows}
@@ -42,15 +40,15 @@ nth_length (x ∷ xs) (suc n) some most = ap suc (nth_length xs n (λ j h. some 
 
 -- the first window in which something is found decides
 module _ (f : Window → Found) where
-  on-hit : (w : Window) (ws : List Window) (k v : ℕ) → f w ≡ At v → judge f (w ∷ ws) k ≡ Fails w.from v (suc k)
+  on-hit : (w : Window) (ws : List Window) (k v : ℕ) → f w ≡ Some v → judge f (w ∷ ws) k ≡ Fails w.from v (suc k)
   unfolding judge
   on-hit w ws k v e = rw e
 
-  on-miss : (w : Window) (ws : List Window) (k : ℕ) → f w ≡ Nothing → judge f (w ∷ ws) k ≡ judge f ws (suc k)
+  on-miss : (w : Window) (ws : List Window) (k : ℕ) → f w ≡ None → judge f (w ∷ ws) k ≡ judge f ws (suc k)
   unfolding judge
   on-miss w ws k e = rw e
 
-  fails_at : (ws : List Window) (j k v : ℕ) (w : Window) → Nth ws j w → ClearBefore f ws j → f w ≡ At v → judge f ws k ≡ Fails w.from v (suc (j + k))
+  fails_at : (ws : List Window) (j k v : ℕ) (w : Window) → Nth ws j w → ClearBefore f ws j → f w ≡ Some v → judge f ws k ≡ Fails w.from v (suc (j + k))
   fails_at [] j k v w a none e = absurd a
   fails_at (x ∷ xs) zero k v w a none e =
       on-hit x xs k v (ap f a ∙ e) ∙ ap (λ (u : Window). Fails u.from v (suc k)) a ∙ ap (λ (n : ℕ). Fails w.from v (suc n)) (omega arith)
@@ -134,7 +132,7 @@ module _ {r : Rule} {at : Places} (fits : rule_fields r ≡ true) (flat : is_seq
   start_of_lem (in_days w u m f p s c) j x (the_period e n) = absurd (omega arith)
   start_of_lem (in_days w u m f p s c) j x (of_months e k a b n) = absurd (omega arith)
   start_of_lem (in_months w u m f p s c) j x (of_months e k a b n) =
-      let same : Number at.first ≡ Number k = sym f ∙ month_on-start r.begin k a b in
+      let same : Some at.first ≡ Some k = sym f ∙ month_on-start r.begin k a b in
       let first : at.first ≡ k = cc in
       rw (m, s, c, first) (omega (arith, n.starts, n.in_period))
   start_of_lem (in_months w u m f p s c) j x (the_period e n) = absurd (omega arith)
@@ -156,7 +154,7 @@ module _ {r : Rule} {at : Places} (fits : rule_fields r ≡ true) (flat : is_seq
     offender-there j w a =
         ap (offender_in doc q r) (nth_same (windows r) j w (window_at at j) a (listed j (no_more j w a))) ∙ sym (as_in_window doc q r (window_at at j) flat)
 
-    pub fails_in : (j : ℕ) → j < at.count → ((i : ℕ) → i < j → offender_at doc q r (window_at at i) ≡ Nothing) → {v n : ℕ} (past : ℕ) → offender_at doc q r (window_at at j) ≡ At v
+    pub fails_in : (j : ℕ) → j < at.count → ((i : ℕ) → i < j → offender_at doc q r (window_at at i) ≡ None) → {v n : ℕ} (past : ℕ) → offender_at doc q r (window_at at j) ≡ Some v
         → n ≡ count_of doc q r (j + 1) past → Fails (start_of at j) v n ≡ in_windows doc q r
     unfolding in_windows count_of
     fails_in j h none {v} {n} past e p =
@@ -166,7 +164,7 @@ module _ {r : Rule} {at : Places} (fits : rule_fields r ≡ true) (flat : is_seq
         (λ i w l a. offender-there i w a ∙ none i l)
         (sym (as_in_window doc q r (window_at at j) flat) ∙ e))
 
-    pub holds-in : ((i : ℕ) → i < at.count → offender_at doc q r (window_at at i) ≡ Nothing) → {n : ℕ} (past : ℕ) → n ≡ count_of doc q r at.count past → Holds n ≡ in_windows doc q r
+    pub holds-in : ((i : ℕ) → i < at.count → offender_at doc q r (window_at at i) ≡ None) → {n : ℕ} (past : ℕ) → n ≡ count_of doc q r at.count past → Holds n ≡ in_windows doc q r
     unfolding in_windows count_of
     holds-in none {n} past p =
         let counts : n ≡ at.count = rw flat at p in

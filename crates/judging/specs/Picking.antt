@@ -7,6 +7,8 @@ use Rattle.meaning.specs.Select.{reads_own}
 use Rattle.marks.specs.Marks.{Marks}
 use Rattle.prepare.specs.Keys.{Keys}
 use Rattle.prepare.specs.Sifts.{Sifts}
+use Rattle.soonest.specs.declared.Picked.{Picked as Lent}
+use Rattle.judging.specs.declared.Read.{Read}
 
 -- what two rules pick out of n records has room
 pub record Room (n : ℕ) (chosen rows reads left others helds : List ℕ) : Type 0 where
@@ -24,3 +26,7 @@ pub record Picked (doc : Doc) (q r : Rule) (chosen rows reads others helds : Lis
   pub helds_room : doc.size ≤ length helds
   pub others_are : is_reference r ≡ true → Keys doc q others
   pub helds_are : is_reference r ≡ true → Marks (reads_own doc q) doc.size helds
+
+-- the same, lent
+abbrev pub PickedOf : Doc → Rule → Rule → Lent → Read → Type 0
+PickedOf doc q r p read = Picked doc q r p.chosen.now p.row.now read.own.now p.other.now read.held.now

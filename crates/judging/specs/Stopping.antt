@@ -1,17 +1,14 @@
 -- What the walk over a rule's places answers: the first of them that has an offender, with its lowest one.
-use Rattle.std.specs.Prelude.{◌≡◌, ℕ, ◌≤◌, ◌<◌, leb}
-use Rattle.meaning.specs.declared.Found.{Found}
-use Rattle.meaning.specs.declared.Found.TheVariants.{At, Nothing}
+use Rattle.std.specs.Prelude.{◌≡◌, ℕ, ◌≤◌, ◌<◌, leb, Option, Some, None}
 use Rattle.meaning.specs.declared.Rule.{Rule}
-use Rattle.meaning.specs.Walk.{first}
+use Rattle.meaning.specs.Walk.{first, Found}
 use Rattle.meaning.specs.Document.{Doc}
-use Rattle.meaning.specs.Window.{Window, meets}
+use Rattle.meaning.specs.Window.{Window}
 use Rattle.places.specs.declared.Places.{Places}
 use Rattle.places.specs.declared.Place.{Place}
 use Rattle.places.specs.Placing.{start_of, end_of, window_at}
 use Rattle.soonest.specs.Soon.{offends_at}
 use Rattle.judging.specs.declared.walking.Stop.{Stop}
-use Rattle.judging.specs.declared.walking.Stop.TheVariants.{Here, Nowhere}
 
 -- the lowest offender of a place, as on a day or as in a window
 unfoldable pub offender_at : Doc → Rule → Rule → Window → Found
@@ -19,7 +16,7 @@ offender_at doc q r w = first (offends_at doc w q r) 0 doc.size
 
 -- no version offends at a place from k on and before j
 pub record Clear (doc : Doc) (q r : Rule) (at : Places) (k j : ℕ) : Type 0 where
-  pub none : (i : ℕ) → k ≤ i → i < j → offender_at doc q r (window_at at i) ≡ Nothing
+  pub none : (i : ℕ) → k ≤ i → i < j → offender_at doc q r (window_at at i) ≡ None
 
 -- `here` is the place of its number
 pub record Stands (at : Places) (here : Place) : Type 0 where
@@ -32,9 +29,9 @@ pub record Stands (at : Places) (here : Place) : Type 0 where
 pub record Offended (doc : Doc) (q r : Rule) (at : Places) (k : ℕ) (here : Place) (v : ℕ) : Type 0 where
   pub stands : Stands at here
   pub clear : Clear doc q r at k here.number
-  pub lowest : offender_at doc q r (window_at at here.number) ≡ At v
+  pub lowest : offender_at doc q r (window_at at here.number) ≡ Some v
 
 -- by the answer: the walk from place k on stopped there, or nowhere
-abbrev pub Stopped : Doc → Rule → Rule → Places → ℕ → Stop → Type 0
-Stopped doc q r at k (Here here v) = Offended doc q r at k here v
-Stopped doc q r at k Nowhere = Clear doc q r at k at.count
+abbrev pub Stopped : Doc → Rule → Rule → Places → ℕ → Option Stop → Type 0
+Stopped doc q r at k (Some stop) = Offended doc q r at k stop.here stop.version
+Stopped doc q r at k None = Clear doc q r at k at.count

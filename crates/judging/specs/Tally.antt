@@ -8,6 +8,8 @@ use Rattle.meaning.specs.Select.{reads_own}
 use Rattle.meaning.specs.Day.{is_change}
 use Rattle.marks.specs.Marks.{Marks}
 use Rattle.changes.specs.Merging.{Sorted}
+use Rattle.soonest.specs.declared.Surveyed.{Surveyed}
+use Rattle.judging.specs.declared.Read.{Read}
 
 -- by the rule's mode: how many change days come before day `past`, or how many windows there are
 unfoldable pub count_of : Doc → Rule → Rule → ℕ → ℕ → ℕ
@@ -21,3 +23,7 @@ pub record Traced (doc : Doc) (q r : Rule) (opens closes own held : List ℕ) : 
   pub own_read : Marks (reads_own doc r) doc.size own
   pub held_room : doc.size ≤ length held
   pub held_read : is_reference r ≡ true → Marks (reads_own doc q) doc.size held
+
+-- the same, lent
+abbrev pub TracedOf : Doc → Rule → Rule → Surveyed → Read → Type 0
+TracedOf doc q r u read = Traced doc q r u.opens.now u.closes.now read.own.now read.held.now

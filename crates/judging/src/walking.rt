@@ -1,5 +1,5 @@
 // The walk over a rule's places, days or windows alike, from one of them on: the first that has an offender, with its lowest one.
-ghost use Rattle.std.specs.Prelude.{◌≡◌, Bool, true, false, ◌||◌, List, ℕ, ◌≤◌};
+ghost use Rattle.std.specs.Prelude.{◌≡◌, Bool, true, false, ◌||◌, ℕ, ◌≤◌};
 ghost use Rattle.calendar.specs.Entries.{MonthTable};
 ghost use Rattle.meaning.specs.declared.Rule.{Rule};
 ghost use Rattle.meaning.specs.Walk.{first};
@@ -12,31 +12,42 @@ ghost use Rattle.prepare.specs.Spoiling.{spoils, Aside};
 ghost use Rattle.places.specs.declared.Places.{Places};
 ghost use Rattle.places.specs.Placing.{window_at, Counted, Placed};
 ghost use Rattle.window.specs.Spread.{Spread};
-ghost use Rattle.judging.specs.Knowing.{Known};
+ghost use Rattle.judging.specs.Knowing.{KnownOf};
 ghost use Rattle.soonest.specs.Soon.{offends_at};
-ghost use Rattle.judging.specs.Armed.{Nilling, Armed};
+ghost use Rattle.judging.specs.Armed.{NillingOf, ArmedOf};
 ghost use Rattle.judging.specs.Stopping.{offender_at, Stands, Stopped};
 
-use meaning::{Found, Rule};
+use columns::Records;
+use day::lent::{Stretch, Trail};
+use meaning::Rule;
 use places::{Place, Places};
 use prepare::Prepared;
+use soonest::Surveyed;
 use window::layout::Layout;
 
-// Where the walk stopped, with the lowest offender there; or that it came to the end.
+// Where a walk stopped, with the lowest offender there.
 #[derive(Clone, Copy)]
-pub enum Stop {
-    Here(Place, usize),
-    Nowhere,
+pub struct Stop {
+    pub here: Place,
+    pub version: usize,
+}
+
+// What a walk has at hand: the rule prepared, its lists laid out for windows, and the rule that it refers to, prepared.
+#[derive(Clone, Copy)]
+pub struct Arms {
+    pub own: Prepared,
+    pub laid: Layout,
+    pub held: Prepared,
 }
 
 // The lower of two records that were looked for.
-fn lower(a: Found, b: Found) -> Found
+fn lower(a: Option<usize>, b: Option<usize>) -> Option<usize>
     ensures { (f g h : ℕ → Bool) → (n : ℕ) → a ≡ first f 0 n → b ≡ first g 0 n → ((v : ℕ) → h v ≡ (f v || g v)) → result ≡ first h 0 n }
 {
-    let Found::At(u) = a else {
+    let Some(u) = a else {
         return b;
     };
-    let Found::At(v) = b else {
+    let Some(v) = b else {
         return a;
     };
     if u < v {
@@ -47,114 +58,87 @@ fn lower(a: Found, b: Found) -> Found
 
 // The lowest version at one place that has a nil, if the rule, a key or a reference, takes none. Cost: a look for each selected version, and one for
 // each field version with a value of one that is present.
-fn spoilt_at(
-    own: Prepared,
-    vkind: &[u8],
-    begin: &[u16],
-    end: &[u16],
-    rep: &[u16],
-    r: Rule,
-    here: Place,
-) -> Found
-    requires { (doc : Doc) × Rows doc r own.start own.next own.last own.lower × Nilling doc vkind.now begin.now end.now rep.now }
-    ensures { (doc : Doc) → (at : Places) → Rows doc r own.start own.next own.last own.lower → Nilling doc vkind.now begin.now end.now rep.now → Stands at here → result ≡ first (spoils doc (meets doc (window_at at here.number)) r) 0 doc.size }
+fn spoilt_at(own: Prepared, records: Records, of: Surveyed, r: Rule, here: Place) -> Option<usize>
+    requires { (doc : Doc) × Rows doc r own.start own.next own.last own.lower × NillingOf doc records «of» }
+    ensures { (doc : Doc) → (at : Places) → Rows doc r own.start own.next own.last own.lower → NillingOf doc records.entry «of».entry → Stands at here → result ≡ first (spoils doc (meets doc (window_at at here.number)) r) 0 doc.size }
 {
     if !((r.kind == 1) | (r.kind == 3)) {
-        return Found::Nothing;
+        return None;
     }
-    sharing::nils::nil_in(
-        own.start, &own.next, &own.last, &own.lower, vkind, begin, end, rep, here.from, here.to,
-    )
+    let stretch = Stretch {
+        begin: records.begin,
+        end: records.end,
+        rep: of.rep,
+        from: here.from,
+        to: here.to,
+    };
+    sharing::nils::nil_in(Trail::from(&own), stretch, records.vkind)
 }
 
 // The lowest offender of a prepared rule at one place, on a day or in a window as the rule says, nils aside. Cost: that of the look.
-fn aside_at(
-    own: Prepared,
-    laid: Layout,
-    held: Prepared,
-    begin: &[u16],
-    end: &[u16],
-    rep: &[u16],
-    group: &[u16],
-    r: Rule,
-    here: Place,
-) -> Found
-    requires { (rule_fields r ≡ true) × (here.from ≤ 36524) × ((doc : Doc) × (q : Rule) × (vkinds : List ℕ) × Armed doc q r own laid held vkinds begin.now end.now rep.now group.now) }
-    ensures { (doc : Doc) → (q : Rule) → (vkinds : List ℕ) → (at : Places) → Armed doc q r own laid held vkinds begin.now end.now rep.now group.now → Placed r at → Counted at → Stands at here → Aside doc (meets doc (window_at at here.number)) r (offends_at doc (window_at at here.number) q r) result }
+fn aside_at(arms: Arms, records: Records, of: Surveyed, r: Rule, here: Place) -> Option<usize>
+    requires { (rule_fields r ≡ true) × (here.from ≤ 36524) × ((doc : Doc) × (q : Rule) × ArmedOf doc q r arms records «of») }
+    ensures { (doc : Doc) → (q : Rule) → (at : Places) → ArmedOf doc q r arms records.entry «of».entry → Placed r at → Counted at → Stands at here → Aside doc (meets doc (window_at at here.number)) r (offends_at doc (window_at at here.number) q r) result }
 {
     if r.windowed == 0 {
-        return day::offender_at(own, held, begin, end, rep, r, here);
+        return day::offender_at(
+            arms.own,
+            arms.held,
+            records.begin,
+            records.end,
+            of.rep,
+            r,
+            here,
+        );
     }
-    window::offender_at(laid, held, begin, end, rep, group, r, here)
+    window::offender_at(
+        arms.laid,
+        arms.held,
+        records.begin,
+        records.end,
+        of.rep,
+        of.group,
+        r,
+        here,
+    )
 }
 
 // The lowest offender of a prepared rule at one place: the lowest that a nil spoils, or that offends otherwise. Cost: that of both looks.
-fn offender_at(
-    own: Prepared,
-    laid: Layout,
-    held: Prepared,
-    vkind: &[u8],
-    begin: &[u16],
-    end: &[u16],
-    rep: &[u16],
-    group: &[u16],
-    r: Rule,
-    here: Place,
-) -> Found
-    requires { (rule_fields r ≡ true) × (here.from ≤ 36524) × ((doc : Doc) × (q : Rule) × Armed doc q r own laid held vkind.now begin.now end.now rep.now group.now) }
-    ensures { (doc : Doc) → (q : Rule) → (at : Places) → Armed doc q r own laid held vkind.now begin.now end.now rep.now group.now → Placed r at → Counted at → Stands at here → result ≡ offender_at doc q r (window_at at here.number) }
+fn offender_at(arms: Arms, records: Records, of: Surveyed, r: Rule, here: Place) -> Option<usize>
+    requires { (rule_fields r ≡ true) × (here.from ≤ 36524) × ((doc : Doc) × (q : Rule) × ArmedOf doc q r arms records «of») }
+    ensures { (doc : Doc) → (q : Rule) → (at : Places) → ArmedOf doc q r arms records.entry «of».entry → Placed r at → Counted at → Stands at here → result ≡ offender_at doc q r (window_at at here.number) }
 {
-    let spoilt = spoilt_at(own, vkind, begin, end, rep, r, here);
-    let other = aside_at(own, laid, held, begin, end, rep, group, r, here);
+    let spoilt = spoilt_at(arms.own, records, of, r, here);
+    let other = aside_at(arms, records, of, r, here);
     lower(other, spoilt)
 }
 
 // The first of a prepared rule's places, from number `first` on, that has an offender. Cost: a look at each place up to it.
 fn walk(
+    arms: Arms,
+    records: Records,
+    of: Surveyed,
     table: &[u16; 1201],
     at: Places,
     first: usize,
-    own: Prepared,
-    laid: Layout,
-    held: Prepared,
-    vkind: &[u8],
-    begin: &[u16],
-    end: &[u16],
-    rep: &[u16],
-    group: &[u16],
     r: Rule,
-) -> Stop
-    requires { MonthTable table.now × (rule_fields r ≡ true) × Placed r at × Counted at × ((doc : Doc) × (q : Rule) × Armed doc q r own laid held vkind.now begin.now end.now rep.now group.now) }
-    ensures { (doc : Doc) → (q : Rule) → Armed doc q r own laid held vkind.now begin.now end.now rep.now group.now → Stopped doc q r at first result }
+) -> Option<Stop>
+    requires { MonthTable table.now × (rule_fields r ≡ true) × Placed r at × Counted at × ((doc : Doc) × (q : Rule) × ArmedOf doc q r arms records «of») }
+    ensures { (doc : Doc) → (q : Rule) → ArmedOf doc q r arms records.entry «of».entry → Stopped doc q r at first result }
 {
-    let mut k = first;
-    while k < at.count {
+    for k in first..at.count {
         let here = places::place_at(table, at, k);
-        let found = offender_at(own, laid, held, vkind, begin, end, rep, group, r, here);
-        if let Found::At(v) = found {
-            return Stop::Here(here, v);
+        if let Some(version) = offender_at(arms, records, of, r, here) {
+            return Some(Stop { here, version });
         }
-        k += 1;
     }
-    Stop::Nowhere
+    None
 }
 
 // The lists of a prepared rule as they are laid out for windows; its own rows for a sequenced rule, which has none. Cost: that of the layout.
-fn lay(
-    kind: &[u8],
-    vkind: &[u8],
-    name: &[u16],
-    parent: &[u16],
-    begin: &[u16],
-    end: &[u16],
-    value: &[i32],
-    group: &[u16],
-    closes: &[u16],
-    own: Prepared,
-    r: Rule,
-) -> Layout
-    requires { (rule_fields r ≡ true) × ((doc : Doc) × Known doc kind.now vkind.now name.now parent.now begin.now end.now value.now group.now closes.now) }
-    ensures { (doc : Doc) → Known doc kind.now vkind.now name.now parent.now begin.now end.now value.now group.now closes.now → is_sequenced r ≡ false → Rows doc r own.start own.next own.last own.lower → Spread doc r result.start result.next result.last result.lower group.now }
+fn lay(records: Records, of: Surveyed, own: Prepared, r: Rule) -> Layout
+    requires { (rule_fields r ≡ true) × ((doc : Doc) × KnownOf doc records «of») }
+    ensures { (doc : Doc) → KnownOf doc records.entry «of».entry → is_sequenced r ≡ false → Rows doc r own.start own.next own.last own.lower → Spread doc r result.start result.next result.last result.lower «of».entry.group.now }
 {
     if r.windowed == 0 {
         let next = own.next;
@@ -167,42 +151,28 @@ fn lay(
             lower,
         };
     }
-    window::layout::lay_out(
-        kind, vkind, name, parent, begin, end, value, group, closes, own, r,
-    )
+    window::layout::lay_out(records, of.group, of.closes, own, r)
 }
 
 // The first place of rule r, which refers to q if it is a reference, from number `first` on, that has an offender. Cost: none where there are no
 // more places; else preparing the rule and the rule that it refers to, its layout, and the walk.
 pub fn stop_from(
-    kind: &[u8],
-    vkind: &[u8],
-    name: &[u16],
-    parent: &[u16],
-    begin: &[u16],
-    end: &[u16],
-    value: &[i32],
-    rep: &[u16],
-    group: &[u16],
-    closes: &[u16],
+    records: Records,
+    of: Surveyed,
     table: &[u16; 1201],
     at: Places,
     first: usize,
     q: Rule,
     r: Rule,
-) -> Stop
-    requires { MonthTable table.now × (rule_fields r ≡ true) × Placed r at × Counted at × (is_reference r ≡ true → (rule_fields q ≡ true) × ((is_key q || is_unique q) ≡ true)) × ((doc : Doc) × Known doc kind.now vkind.now name.now parent.now begin.now end.now value.now group.now closes.now × Represents doc rep.now) }
-    ensures { (doc : Doc) → (p : Rule) → Known doc kind.now vkind.now name.now parent.now begin.now end.now value.now group.now closes.now → Represents doc rep.now → (is_reference r ≡ true → p ≡ q) → Stopped doc p r at first result }
+) -> Option<Stop>
+    requires { MonthTable table.now × (rule_fields r ≡ true) × Placed r at × Counted at × (is_reference r ≡ true → (rule_fields q ≡ true) × ((is_key q || is_unique q) ≡ true)) × ((doc : Doc) × KnownOf doc records «of» × Represents doc «of».rep.now) }
+    ensures { (doc : Doc) → (p : Rule) → KnownOf doc records.entry «of».entry → Represents doc «of».entry.rep.now → (is_reference r ≡ true → p ≡ q) → Stopped doc p r at first result }
 {
     if at.count <= first {
-        return Stop::Nowhere;
+        return None;
     }
-    let own = prepare::prepare(kind, vkind, name, parent, value, r);
-    let held = prepare::prepare_referred(kind, vkind, name, parent, value, own, q, r);
-    let laid = lay(
-        kind, vkind, name, parent, begin, end, value, group, closes, own, r,
-    );
-    walk(
-        table, at, first, own, laid, held, vkind, begin, end, rep, group, r,
-    )
+    let own = prepare::prepare(records, r);
+    let held = prepare::prepare_referred(records, own, q, r);
+    let laid = lay(records, of, own, r);
+    walk(Arms { own, laid, held }, records, of, table, at, first, r)
 }

@@ -2,14 +2,15 @@
 use mathlib.Core.Path.{◌≡◌, sym, ap, ◌∙◌}
 use mathlib.Core.Bool.{Bool, ◌&&◌}
 use mathlib.Core.List.{List}
-use Prim.Native.Nat.{ℕ, ◌+◌, ◌-◌, ◌≤◌, ◌<◌}
+use Prim.Native.Nat.{ℕ, ◌+◌, ◌≤◌, ◌<◌}
 use native.Mathlib.Omega.{arith}
 use lib.Dec.{eqb, leb, ltb}
 use lib.ListN.{length, get_or, set}
 use lib.Seq.{get_or-set_same, get_or-set_other}
 use borrow.Author.Count.{below_more}
-use Rattle.meaning.specs.declared.Reading.TheVariants.{Accepted}
-use Rattle.meaning.specs.declared.Listed.{Listed}
+use Rattle.meaning.specs.Reading.{Accepted}
+use Rattle.std.specs.Prelude.{Result}
+use Rattle.meaning.specs.declared.Refusal.{Refusal}
 use Rattle.meaning.specs.Document.{Doc}
 use Rattle.meaning.specs.Day.{alive}
 use Rattle.meaning.specs.Answer.{storing, lent_after}
@@ -36,8 +37,8 @@ module _ (doc : Doc) (d : ℕ) {kinds begins ends : List ℕ} (t : Lends doc.siz
 
 -- what the call then answers and leaves
 module _ (list other lent : List ℕ) (e : list ≡ other) where
-  pub answer-of : {x : Listed} → x ≡ storing Accepted list lent → x ≡ storing Accepted other lent
+  pub answer-of : {x : Result ℕ Refusal} → x ≡ storing Accepted list lent → x ≡ storing Accepted other lent
   answer-of p = rw (sym e) p
 
-  pub lent_of : (x : Listed) (out : List ℕ) → out ≡ lent_after x list lent → out ≡ lent_after x other lent
+  pub lent_of : (x : Result ℕ Refusal) (out : List ℕ) → out ≡ lent_after x list lent → out ≡ lent_after x other lent
   lent_of x out p = rw (sym e) p

@@ -4,12 +4,17 @@ use Rattle.std.specs.Prelude.{◌≡◌, List, ℕ, ◌-◌, ◌≤◌, length, 
 use Rattle.meaning.specs.Document.{Doc, is_version}
 use Rattle.columns.specs.Lent.{Tree, Periods}
 use Rattle.columns.specs.Judgeable.{Judgeable}
+use Rattle.columns.specs.declared.Records.{Records}
 use Rattle.orders.specs.Order.{InOrder}
 
 pub record Living (kinds begins ends : List ℕ) (room : ℕ) : Type 0 where
   pub begin : length begins ≡ length kinds
   pub end : length ends ≡ length kinds
   pub fits : length kinds ≤ room
+
+-- the same of columns that are lent together
+abbrev pub LivingIn : Records → ℕ → Type 0
+LivingIn r room = Living r.kind.now r.begin.now r.end.now room
 
 -- the first n entries of five columns hold a document that can be judged
 pub record Turnable (n : ℕ) (kinds names parents begins ends : List ℕ) : Type 0 where

@@ -1,63 +1,37 @@
 // The slice of a day: the versions alive on it, marked and stored.
-ghost use Rattle.std.specs.Prelude.{◌≡◌, ◌&&◌, ◌-◌, ◌≤◌, eqb, leb, ltb, length, take};
-ghost use Rattle.meaning.specs.declared.Reading.TheVariants.{Accepted};
+ghost use Rattle.std.specs.Prelude.{◌≡◌, length};
+ghost use Rattle.meaning.specs.Reading.{Accepted};
 ghost use Rattle.meaning.specs.Block.{limit};
 ghost use Rattle.meaning.specs.Walk.{pick};
 ghost use Rattle.meaning.specs.Document.{Doc};
 ghost use Rattle.meaning.specs.Day.{alive};
 ghost use Rattle.meaning.specs.Answer.{storing, lent_after};
-ghost use Rattle.columns.specs.Lent.{Lends, Periods};
+ghost use Rattle.columns.specs.Lent.{Lends, PeriodsOf};
 ghost use Rattle.marks.specs.Marks.{Marks};
-ghost use Rattle.lists.specs.Lending.{Living};
+ghost use Rattle.lists.specs.Lending.{LivingIn};
 
-use columns::LIMIT;
-use meaning::Listed;
-
-// 1 for a version whose period has day d, else 0.
-fn mark_of(kind: u8, begin: u16, end: u16, d: u16) -> u8
-    ensures { eqb result 1 ≡ (eqb kind 2 && leb begin d && ltb d end) }
-{
-    if (kind == 2) & (begin <= d) & (d < end) {
-        return 1;
-    }
-    0
-}
+use columns::{LIMIT, Records};
+use meaning::Refusal;
 
 // Marks the versions alive on day d. Cost: a look at each record.
-fn mark_alive(kind: &[u8], begin: &[u16], end: &[u16], d: u16, marks: &mut [u8])
-    requires { Living kind.now begin.now end.now (length marks.old) }
-    ensures { (doc : Doc) → Lends doc.size doc.kind 0 kind.now → Periods doc begin.now end.now → Marks (alive doc d) doc.size marks.new }
+fn mark_alive(records: Records<'_>, d: u16, marks: &mut [u8])
+    requires { LivingIn records (length marks.old) }
+    ensures { (doc : Doc) → Lends doc.size doc.kind 0 records.entry.kind.now → PeriodsOf doc records.entry → Marks (alive doc d) doc.size marks.new }
 {
-    let mut i = 0;
-    while i < kind.len() {
-        marks[i] = mark_of(kind[i], begin[i], end[i], d);
-        i += 1;
+    for i in 0..records.kind.len() {
+        marks[i] = u8::from(
+            (records.kind[i] == 2) & (records.begin[i] <= d) & (d < records.end[i]),
+        );
     }
 }
 
 // The versions alive on day d, into a lent list. Cost: three looks at each record.
-fn slice_columns(kind: &[u8], begin: &[u16], end: &[u16], d: u16, out: &mut [u16]) -> Listed
-    requires { Living kind.now begin.now end.now limit }
-    ensures answer { (doc : Doc) → Lends doc.size doc.kind 0 kind.now → Periods doc begin.now end.now → result ≡ storing Accepted (pick (alive doc d) 0 doc.size) out.old }
-    ensures lent { (doc : Doc) → Lends doc.size doc.kind 0 kind.now → Periods doc begin.now end.now → out.new ≡ lent_after result (pick (alive doc d) 0 doc.size) out.old }
+pub fn slice_front(records: Records<'_>, d: u16, out: &mut [u16]) -> Result<usize, Refusal>
+    requires { LivingIn records limit }
+    ensures answer { (doc : Doc) → Lends doc.size doc.kind 0 records.entry.kind.now → PeriodsOf doc records.entry → result ≡ storing Accepted (pick (alive doc d) 0 doc.size) out.old }
+    ensures lent { (doc : Doc) → Lends doc.size doc.kind 0 records.entry.kind.now → PeriodsOf doc records.entry → out.new ≡ lent_after result (pick (alive doc d) 0 doc.size) out.old }
 {
     let mut marks = [0u8; LIMIT];
-    mark_alive(kind, begin, end, d, &mut marks);
-    marks::store_marked(&marks, 0, kind.len(), out)
-}
-
-// The same over the first n entries of the columns.
-pub fn slice_front(
-    n: usize,
-    kind: &[u8],
-    begin: &[u16],
-    end: &[u16],
-    d: u16,
-    out: &mut [u16],
-) -> Listed
-    requires { (n ≤ limit) × (n ≤ length kind.now) × (n ≤ length begin.now) × (n ≤ length end.now) }
-    ensures answer { (doc : Doc) → Lends doc.size doc.kind 0 (take (n - 0) kind.now) → Periods doc (take (n - 0) begin.now) (take (n - 0) end.now) → result ≡ storing Accepted (pick (alive doc d) 0 doc.size) out.old }
-    ensures lent { (doc : Doc) → Lends doc.size doc.kind 0 (take (n - 0) kind.now) → Periods doc (take (n - 0) begin.now) (take (n - 0) end.now) → out.new ≡ lent_after result (pick (alive doc d) 0 doc.size) out.old }
-{
-    slice_columns(&kind[0..n], &begin[0..n], &end[0..n], d, out)
+    mark_alive(records, d, &mut marks);
+    marks::store_marked(&marks, 0, records.kind.len(), out)
 }

@@ -7,9 +7,8 @@ use native.Mathlib.Omega.{arith}
 use native.Mathlib.Numerals.{add-one}
 use lib.Dec.{eqb}
 use borrow.Author.Tests.{eq-eqb, eqb-true}
-use Rattle.meaning.specs.declared.Found.{Found}
-use Rattle.meaning.specs.declared.Found.TheVariants.{At}
-use Rattle.meaning.specs.Walk.{any, count, first}
+use Rattle.std.specs.Prelude.{Some}
+use Rattle.meaning.specs.Walk.{any, count, first, Found}
 use Rattle.meaning.proofs.Basics.{went, both}
 use Rattle.meaning.proofs.Walks.{any_some}
 use Rattle.meaning.proofs.Loops.{any_last, first-yes, first-no}
@@ -122,7 +121,7 @@ module _ (f : ℕ → Bool) where
 
   -- the first that passes: what is left at i is the walk from i on, and i is next
   module _ (n i : ℕ) (t : Bool) (is : t ≡ f i) (whole : Found) (rest : first f i (n - i) ≡ whole) (low : i < n) where
-    pub first-hit : t ≡ true → At i ≡ whole
+    pub first-hit : t ≡ true → Some i ≡ whole
     first-hit y = sym (first-yes f n i low (sym is ∙ y)) ∙ rest
 
     pub first-miss : t ≡ false → first f (i + 1) (n - (i + 1)) ≡ whole

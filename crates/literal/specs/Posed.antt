@@ -2,6 +2,8 @@
 use Rattle.std.specs.Prelude.{◌≡◌, Bool, List, ℕ, ◌≤◌, ℤ, length}
 use Rattle.meaning.specs.declared.Rule.{Rule}
 use Rattle.meaning.specs.Document.{Doc}
+use Rattle.columns.specs.declared.Records.{Records}
+use Rattle.literal.specs.declared.offence.Asked.{Asked}
 use Rattle.literal.specs.Laid.{Rooms, Laid, Valued}
 use Rattle.literal.specs.Only.{Only, Inside}
 
@@ -22,3 +24,10 @@ pub record Posed (doc : Doc) (p : ℕ → Bool) (q r : Rule) (kinds vkinds names
   pub laid : Laid doc p kinds vkinds names parents presents
   pub valued : Valued doc vkinds values
   pub compares : Compares doc p q r only
+
+-- the same of columns that are lent together, and of a rule as it is asked on a day
+abbrev pub ReadyFor : Records → Asked → Type 0
+ReadyFor t a = Ready a.rule.kind t.kind.now t.vkind.now t.name.now t.parent.now t.value.now a.present.now a.only.now
+
+abbrev pub PosedFor : Doc → (ℕ → Bool) → Rule → Records → Asked → Type 0
+PosedFor doc p q t a = Posed doc p q a.rule t.kind.now t.vkind.now t.name.now t.parent.now t.value.now a.present.now a.only.now

@@ -8,14 +8,15 @@ ghost use Rattle.meaning.specs.Walk.{first};
 ghost use Rattle.meaning.specs.Rules.{is_reference, rule_fields};
 ghost use Rattle.meaning.specs.Select.{selected};
 ghost use Rattle.meaning.specs.Day.{offends};
-ghost use Rattle.columns.specs.Lent.{Tree, Values};
+ghost use Rattle.columns.specs.Lent.{TreeOf, ValuesOf};
 ghost use Rattle.columns.specs.Judgeable.{Judgeable};
 ghost use Rattle.marks.specs.Marks.{Marks};
-ghost use Rattle.literal.specs.Posed.{Ready, Posed};
+ghost use Rattle.literal.specs.Posed.{ReadyFor, PosedFor};
 
-use crate::offence::offends;
+use crate::offence::{Asked, offends};
 use crate::only::only_values;
-use meaning::{Found, Rule};
+use columns::Records;
+use meaning::Rule;
 
 mod fields; // fields.rt: the field versions of one version, and its values
 mod only; // only.rt: the only value of each version, and whether one is equal to another
@@ -23,52 +24,48 @@ mod offence; // offence.rt: whether one version offends
 
 // The lowest version that offends, by the column of only values with which the rule compares. Cost: two looks at each record for each
 // version that is selected and present.
-fn first_offender(
-    kind: &[u8],
-    vkind: &[u8],
-    name: &[u16],
-    parent: &[u16],
-    value: &[i32],
-    own: &[u8],
-    present: &[u8],
-    only: &[u16],
-    r: Rule,
-) -> Found
-    requires { (1 ≤ r.kind) × (length kind.now ≤ length own.now) × Ready r.kind kind.now vkind.now name.now parent.now value.now present.now only.now }
-    ensures { (doc : Doc) (p : ℕ → Bool) (q : Rule) → Posed doc p q r kind.now vkind.now name.now parent.now value.now present.now only.now → Marks (selected doc r) doc.size own.now → result ≡ first (offends doc p q r) 0 doc.size }
+fn first_offender(records: Records<'_>, asked: Asked) -> Option<usize>
+    requires { (1 ≤ asked.rule.kind) × (length records.kind.now ≤ length asked.own.now) × ReadyFor records asked }
+    ensures { (doc : Doc) (p : ℕ → Bool) (q : Rule) → PosedFor doc p q records.entry asked.entry → Marks (selected doc asked.entry.rule) doc.size asked.entry.own.now → result ≡ first (offends doc p q asked.entry.rule) 0 doc.size }
 {
-    let mut v = 0;
-    while v < kind.len() {
-        if offends(kind, vkind, name, parent, value, own, present, only, r, v) {
-            return Found::At(v);
+    for v in 0..records.kind.len() {
+        if offends(records, asked, v) {
+            return Some(v);
         }
-        v += 1;
     }
-    Found::Nothing
+    None
 }
 
 // The lowest version that offends rule r among those present: `own` marks the versions that r selects, and `held` those that `other`
 // selects, which is the rule referred to for a reference, else r again. Cost: about three looks at each record for each version that is
 // selected and present.
 pub fn offender<'a>(
-    kind: &'a [u8],
-    vkind: &'a [u8],
-    name: &'a [u16],
-    parent: &'a [u16],
-    value: &'a [i32],
+    records: Records<'_>,
     own: &'a [u8],
     held: &'a [u8],
     present: &[u8],
     other: Rule,
     r: Rule,
-) -> Found
-    requires { (rule_fields r ≡ true) × ((doc : Doc) × Tree doc kind.now name.now parent.now × Values doc kind.now vkind.now value.now × Judgeable doc × (doc.size ≤ length own.now) × (doc.size ≤ length held.now) × (doc.size ≤ length present.now)) }
-    ensures { (doc : Doc) (p : ℕ → Bool) (q : Rule) → Tree doc kind.now name.now parent.now → Values doc kind.now vkind.now value.now → Judgeable doc → Marks (selected doc r) doc.size own.now → Marks (selected doc other) doc.size held.now → Marks p doc.size present.now → (is_reference r ≡ true → other ≡ q) → (is_reference r ≡ false → other ≡ r) → result ≡ first (offends doc p q r) 0 doc.size }
+) -> Option<usize>
+    requires { (rule_fields r ≡ true) × ((doc : Doc) × TreeOf doc records × ValuesOf doc records × Judgeable doc × (doc.size ≤ length own.now) × (doc.size ≤ length held.now) × (doc.size ≤ length present.now)) }
+    ensures { (doc : Doc) (p : ℕ → Bool) (q : Rule) → TreeOf doc records.entry → ValuesOf doc records.entry → Judgeable doc → Marks (selected doc r) doc.size own.now → Marks (selected doc other) doc.size held.now → Marks p doc.size present.now → (is_reference r ≡ true → other ≡ q) → (is_reference r ≡ false → other ≡ r) → result ≡ first (offends doc p q r) 0 doc.size }
 {
     if 3 < r.kind {
         let none = [0u16; 1];
-        return first_offender(kind, vkind, name, parent, value, own, present, &none, r);
+        let asked = Asked {
+            own,
+            present,
+            only: &none,
+            rule: r,
+        };
+        return first_offender(records, asked);
     }
-    let only = only_values(kind, vkind, name, parent, held, present, other.field);
-    first_offender(kind, vkind, name, parent, value, own, present, &only, r)
+    let only = only_values(records, held, present, other.field);
+    let asked = Asked {
+        own,
+        present,
+        only: &only,
+        rule: r,
+    };
+    first_offender(records, asked)
 }

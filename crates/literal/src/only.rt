@@ -5,31 +5,22 @@ ghost use Rattle.meaning.specs.Document.{Doc};
 ghost use Rattle.meaning.specs.Walk.{any};
 ghost use Rattle.meaning.specs.Select.{selected, same_value};
 ghost use Rattle.marks.specs.Marks.{Marks};
-ghost use Rattle.literal.specs.Laid.{Rooms, Laid, Valued};
+ghost use Rattle.literal.specs.Laid.{RoomsIn, LaidIn, Valued};
 ghost use Rattle.literal.specs.Only.{OnlyOf, Only, Inside, shares_at};
 
 use crate::fields::values;
-use columns::LIMIT;
+use columns::{LIMIT, Records};
 use numbers::index;
 
 // One past the record that gives version u its value, where u is chosen and present and has one value only; else 0. Cost: a look at each record.
-fn only_value(
-    kind: &[u8],
-    vkind: &[u8],
-    name: &[u16],
-    parent: &[u16],
-    chosen: &[u8],
-    present: &[u8],
-    field: u16,
-    u: usize,
-) -> u16
-    requires { (u < length kind.now) × (length kind.now ≤ length chosen.now) × Rooms kind.now vkind.now name.now parent.now present.now }
-    ensures { (result ≤ length kind.now) × ((doc : Doc) (p : ℕ → Bool) (q : Rule) → Laid doc p kind.now vkind.now name.now parent.now present.now → q.field ≡ field → Marks (selected doc q) doc.size chosen.now → OnlyOf doc p q u result) }
+fn only_value(records: Records<'_>, chosen: &[u8], present: &[u8], field: u16, u: usize) -> u16
+    requires { (u < length records.kind.now) × (length records.kind.now ≤ length chosen.now) × RoomsIn records present.now }
+    ensures { (result ≤ length records.entry.kind.now) × ((doc : Doc) (p : ℕ → Bool) (q : Rule) → LaidIn doc p records.entry present.now → q.field ≡ field → Marks (selected doc q) doc.size chosen.now → OnlyOf doc p q u result) }
 {
     if !((chosen[u] == 1) & (present[u] == 1)) {
         return 0;
     }
-    let t = values(kind, vkind, name, parent, present, field, u);
+    let t = values(records, present, field, u);
     if t.many != 1 {
         return 0;
     }
@@ -37,23 +28,13 @@ fn only_value(
 }
 
 // The same for each record. Cost: a look at each record for each version that is chosen and present.
-pub fn only_values(
-    kind: &[u8],
-    vkind: &[u8],
-    name: &[u16],
-    parent: &[u16],
-    chosen: &[u8],
-    present: &[u8],
-    field: u16,
-) -> [u16; LIMIT]
-    requires { (length kind.now ≤ length chosen.now) × Rooms kind.now vkind.now name.now parent.now present.now }
-    ensures { Inside (length kind.now) result × ((doc : Doc) (p : ℕ → Bool) (q : Rule) → Laid doc p kind.now vkind.now name.now parent.now present.now → q.field ≡ field → Marks (selected doc q) doc.size chosen.now → Only doc p q result) }
+pub fn only_values(records: Records<'_>, chosen: &[u8], present: &[u8], field: u16) -> [u16; LIMIT]
+    requires { (length records.kind.now ≤ length chosen.now) × RoomsIn records present.now }
+    ensures { Inside (length records.entry.kind.now) result × ((doc : Doc) (p : ℕ → Bool) (q : Rule) → LaidIn doc p records.entry present.now → q.field ≡ field → Marks (selected doc q) doc.size chosen.now → Only doc p q result) }
 {
     let mut only = [0u16; LIMIT];
-    let mut u = 0;
-    while u < kind.len() {
-        only[u] = only_value(kind, vkind, name, parent, chosen, present, field, u);
-        u += 1;
+    for u in 0..records.kind.len() {
+        only[u] = only_value(records, chosen, present, field, u);
     }
     only
 }
@@ -84,12 +65,10 @@ pub fn shared(vkind: &[u8], value: &[i32], only: &[u16], upto: usize, f: usize) 
     requires { (f < length vkind.now) × (upto ≤ length vkind.now) × (length vkind.now ≤ length value.now) × Inside (length vkind.now) only.now }
     ensures { (doc : Doc) → Valued doc vkind.now value.now → result ≡ any (shares_at doc only.now f) 0 upto }
 {
-    let mut u = 0;
-    while u < upto {
+    for u in 0..upto {
         if shares(vkind, value, only, f, u) {
             return true;
         }
-        u += 1;
     }
     false
 }

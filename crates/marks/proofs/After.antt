@@ -3,9 +3,8 @@ use mathlib.Core.Path.{◌≡◌, refl, ap, ◌∙◌}
 use mathlib.Core.Bool.{Bool, true, false}
 use Prim.Native.Nat.{ℕ, ◌+◌, ◌-◌, ◌≤◌, ◌<◌}
 use native.Mathlib.Omega.{arith}
-use Rattle.meaning.specs.declared.Found.{Found}
-use Rattle.meaning.specs.declared.Found.TheVariants.{At, Nothing}
-use Rattle.meaning.specs.Walk.{first, on_found, pick}
+use Rattle.std.specs.Prelude.{Some, None}
+use Rattle.meaning.specs.Walk.{first, on_found, pick, Found}
 use Rattle.meaning.proofs.Walks.{first_found, first-nothing}
 use Rattle.meaning.proofs.Loops.{first-yes, first-no, first-end}
 use Rattle.meaning.proofs.Picks.{pick-skip}
@@ -36,10 +35,10 @@ module _ (f : ℕ → Bool) (n : ℕ) where
   after_is i h = go (first f i (n - i)) refl
     where
       go : (x : Found) → first f i (n - i) ≡ x → Next i (on_found (first f i (n - i)) (λ v. v) n)
-      go (At v) e =
+      go (Some v) e =
           let l = first_found f i (n - i) v e in
           rw e (record { from = l.from; to = omega (arith, l.below); before = l.before; passes = λ _. l.passes })
-      go Nothing e =
+      go None e =
           rw e (record { from = h; to = omega arith; before = λ k a b. first-nothing f i (n - i) e k a (omega arith); passes = λ l. absurd (omega arith) })
 
   -- a list of those that pass begins with it

@@ -1,4 +1,5 @@
 -- The laws behind the walks over marks.
+pub mod Bytes
 pub mod After
 pub mod Storing
 pub mod Listing

@@ -9,8 +9,8 @@ use native.Mathlib.Omega.{arith}
 use lib.ListN.{length, drop, set, length-set}
 use lib.Seq.{sets, sets-eq}
 use borrow.Author.Tests.{le-leb, lt-leb}
-use Rattle.meaning.specs.declared.Listed.TheVariants.{Stored, Refused}
-use Rattle.meaning.specs.declared.Reading.TheVariants.{Accepted}
+use Rattle.std.specs.Prelude.{Ok}
+use Rattle.meaning.specs.Reading.{Refused, Accepted}
 use Rattle.meaning.specs.Walk.{pick}
 use Rattle.meaning.specs.Answer.{storing}
 use Rattle.meaning.proofs.Loops.{one_less}
@@ -101,6 +101,6 @@ pub too_short : (list lent : List ℕ) (n : ℕ) → n ≡ length list → lengt
 unfolding storing
 too_short list lent n e h = let t = lt-leb (length list) (length lent) (omega arith) in rw t
 
-pub long_enough_lem : (list lent : List ℕ) (n : ℕ) → n ≡ length list → n ≤ length lent → Stored n ≡ storing Accepted list lent
+pub long_enough_lem : (list lent : List ℕ) (n : ℕ) → n ≡ length list → n ≤ length lent → Ok n ≡ storing Accepted list lent
 unfolding storing
-long_enough_lem list lent n e h = let t = le-leb (length list) (length lent) (omega arith) in rw t (ap Stored e)
+long_enough_lem list lent n e h = let t = le-leb (length list) (length lent) (omega arith) in rw t (ap Ok e)

@@ -2,24 +2,22 @@
 #![tactic(auto)]
 
 ghost use Rattle.std.specs.Prelude.{◌≡◌, ◌++◌, ◌-◌, ◌≤◌, length, drop};
-ghost use Rattle.meaning.specs.declared.Reading.TheVariants.{Accepted};
+ghost use Rattle.meaning.specs.Reading.{Accepted};
 ghost use Rattle.meaning.specs.Walk.{pick};
 ghost use Rattle.meaning.specs.Answer.{storing, lent_after};
 ghost use Rattle.marks.specs.Marks.{marked, after};
 
-use meaning::Listed;
+use meaning::Refusal;
 
 // The lowest marked number from `from` on, or `to` where none below it is. Cost: a look at each number passed over.
 fn next_marked(marks: &[u8], from: usize, to: usize) -> usize
     requires { to ≤ length marks.now }
     ensures { result ≡ after (marked marks.now) from to }
 {
-    let mut i = from;
-    while i < to {
+    for i in from..to {
         if marks[i] == 1 {
             return i;
         }
-        i += 1;
     }
     to
 }
@@ -31,6 +29,7 @@ fn count_marked(marks: &[u8], from: usize, to: usize) -> usize
 {
     let mut n: usize = 0;
     let mut i = next_marked(marks, from, to);
+    // a while: it goes from one marked number to the next
     while i < to {
         n += 1;
         i = next_marked(marks, i + 1, to);
@@ -45,6 +44,7 @@ fn list_marked(marks: &[u8], from: usize, to: usize, out: &mut [u16])
 {
     let mut k: usize = 0;
     let mut i = next_marked(marks, from, to);
+    // a while: it goes from one marked number to the next
     while i < to {
         out[k] = i as u16;
         k += 1;
@@ -53,15 +53,18 @@ fn list_marked(marks: &[u8], from: usize, to: usize, out: &mut [u16])
 }
 
 // The same into a list of any length: 12 where it is too short, and then nothing is stored. Cost: two looks at each number.
-pub fn store_marked(marks: &[u8], from: usize, to: usize, out: &mut [u16]) -> Listed
+pub fn store_marked(marks: &[u8], from: usize, to: usize, out: &mut [u16]) -> Result<usize, Refusal>
     requires { (to ≤ length marks.now) × (to ≤ 65536) × (from ≤ to) }
     ensures answer { result ≡ storing Accepted (pick (marked marks.now) from (to - from)) out.old }
     ensures lent { out.new ≡ lent_after result (pick (marked marks.now) from (to - from)) out.old }
 {
     let n = count_marked(marks, from, to);
     if out.len() < n {
-        return Listed::Refused(12, 0);
+        return Err(Refusal {
+            number: 12,
+            place: 0,
+        });
     }
     list_marked(marks, from, to, out);
-    Listed::Stored(n)
+    Ok(n)
 }

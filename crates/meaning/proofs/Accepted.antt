@@ -2,7 +2,7 @@
 use mathlib.Core.Path.{◌≡◌}
 use Prim.Native.Nat.{ℕ, ◌<◌}
 use native.Mathlib.Omega.{arith}
-use Rattle.meaning.specs.declared.Reading.TheVariants.{Accepted}
+use Rattle.meaning.specs.Reading.{Accepted}
 use Rattle.meaning.specs.Document.{Doc}
 use Rattle.meaning.specs.Nodes.{document_tests, accept}
 use Rattle.meaning.proofs.Sound.{Version, SoundRecords, Sound}

@@ -5,10 +5,10 @@ use mathlib.Core.List.{List, map}
 use Prim.Native.Nat.{ℕ}
 use lib.ListN.{replicate}
 use Rattle.meaning.specs.declared.Rule.{Rule}
-use Rattle.meaning.specs.declared.Reading.{Reading}
-use Rattle.meaning.specs.declared.Reading.TheVariants.{Accepted, Refused}
+use Rattle.meaning.specs.Reading.{Reading, Accepted}
+use Rattle.std.specs.Prelude.{Result, Err, Ok}
+use Rattle.meaning.specs.declared.Refusal.{Refusal}
 use Rattle.meaning.specs.declared.Verdict.{Verdict}
-use Rattle.meaning.specs.declared.Listed.{Listed}
 use Rattle.meaning.specs.Order.{in_order}
 use Rattle.meaning.specs.Block.{node_form, image_tests}
 use Rattle.meaning.specs.Document.{Doc}
@@ -33,8 +33,8 @@ pub data Asked : Type 0 where
   on_changes : ℕ → ℕ → Asked
 
 pub data Answered : Type 0 where
-  told : Verdict → Answered
-  stored : Listed → List ℕ → Answered
+  told : Result Verdict Refusal → Answered
+  stored : Result ℕ Refusal → List ℕ → Answered
 
 -- what comes back, by the definitions
 unfoldable pub answer : List ℕ → List ℕ → Asked → Answered
@@ -61,10 +61,10 @@ judged-quick doc s q r =
 
 -- what is found matters only where the reading accepts
 after_same : (x : Reading) (a b : Verdict) → (x ≡ Accepted → a ≡ b) → verdict_after x a ≡ verdict_after x b
-after_same Accepted a b h = h refl
-after_same (Refused k i) a b h = refl
+after_same Accepted a b h = ap Ok (h refl)
+after_same (Err why) a b h = refl
 
-unfoldable pub quick_verdict : List ℕ → List ℕ → ℕ → Verdict
+unfoldable pub quick_verdict : List ℕ → List ℕ → ℕ → Result Verdict Refusal
 quick_verdict nodes rules k =
     verdict_after (read_verdict nodes rules k) (quick_judged (doc_of nodes) (referred_by (rules_of rules) k) (rule_at (rules_of rules) k))
 

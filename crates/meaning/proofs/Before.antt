@@ -1,13 +1,14 @@
 -- The verdict as 01 alone has it, before request 2 of 02: a window is held to a cardinality's minimum, shortened or not. Nothing is judged by it; it is
 -- what `Sparing` compares the meaning with.
+use Rattle.meaning.specs.declared.Refusal.{Refusal}
+use Rattle.std.specs.Prelude.{Result}
 use mathlib.Core.Bool.{Bool, ◌&&◌, not, cond}
 use mathlib.Core.List.{List}
 use Prim.Native.Nat.{ℕ}
 use lib.IntN.{pos}
-use Rattle.meaning.specs.declared.Found.{Found}
 use Rattle.meaning.specs.declared.Rule.{Rule}
 use Rattle.meaning.specs.declared.Verdict.{Verdict}
-use Rattle.meaning.specs.Walk.{any, count, first}
+use Rattle.meaning.specs.Walk.{any, count, first, Found}
 use Rattle.meaning.specs.Document.{Doc, number_of}
 use Rattle.meaning.specs.Nodes.{doc_of}
 use Rattle.meaning.specs.Rules.{by_kind, is_sequenced, rule_at, rules_of}
@@ -40,6 +41,6 @@ unfoldable pub judged_before : Doc → Rule → Rule → Verdict
 judged_before doc q r = cond (is_sequenced r) (on_days doc q r) (judge (offender_before doc q r) (windows r) 0)
 
 -- the call `verdict`
-unfoldable pub verdict_before : List ℕ → List ℕ → ℕ → Verdict
+unfoldable pub verdict_before : List ℕ → List ℕ → ℕ → Result Verdict Refusal
 verdict_before nodes rules k =
     verdict_after (read_verdict nodes rules k) (judged_before (doc_of nodes) (referred_by (rules_of rules) k) (rule_at (rules_of rules) k))

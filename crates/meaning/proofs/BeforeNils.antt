@@ -9,13 +9,12 @@ use lib.Dec.{leb, ltb, eqb}
 use lib.ListN.{length}
 use Rattle.meaning.specs.declared.Node.{Node}
 use Rattle.meaning.specs.declared.Rule.{Rule}
-use Rattle.meaning.specs.declared.Found.{Found}
-use Rattle.meaning.specs.declared.Reading.{Reading}
-use Rattle.meaning.specs.declared.Verdict.{Verdict}
+use Rattle.meaning.specs.Reading.{Reading}
 use Rattle.meaning.specs.declared.Verdict.TheVariants.{Holds, Fails}
-use Rattle.meaning.specs.declared.Listed.{Listed}
-use Rattle.meaning.specs.declared.Output.{Output}
-use Rattle.meaning.specs.Walk.{any, count, first, on_found, found, place}
+use Rattle.std.specs.Prelude.{Result}
+use Rattle.meaning.specs.declared.Refusal.{Refusal}
+use Rattle.meaning.specs.declared.Verdict.{Verdict}
+use Rattle.meaning.specs.Walk.{any, count, first, on_found, found, place, Found}
 use Rattle.meaning.specs.Bytes.{eq_z}
 use Rattle.meaning.specs.Order.{need, and_then, Test, in_order}
 use Rattle.meaning.specs.Block.{node_form, limit, image_tests}
@@ -161,14 +160,14 @@ judged_was doc q r = cond (is_sequenced r) (on_days_was doc q r) (in_windows_was
 unfoldable pub read_verdict_was : List ℕ → List ℕ → ℕ → Reading
 read_verdict_was nodes rules k = and_then (read_nodes_was nodes) (and_then (read_rules rules) (need (ltb k (length (rules_of rules))) 11 0))
 
-unfoldable pub verdict_was : List ℕ → List ℕ → ℕ → Verdict
+unfoldable pub verdict_was : List ℕ → List ℕ → ℕ → Result Verdict Refusal
 verdict_was nodes rules k =
     verdict_after (read_verdict_was nodes rules k) (judged_was (doc_of nodes) (referred_by (rules_of rules) k) (rule_at (rules_of rules) k))
 
 unfoldable pub read_slice_was : List ℕ → ℕ → Reading
 read_slice_was nodes d = and_then (read_nodes_was nodes) (need (leb d 36524) 11 0)
 
-unfoldable pub slice_answer_was : List ℕ → ℕ → List ℕ → Listed
+unfoldable pub slice_answer_was : List ℕ → ℕ → List ℕ → Result ℕ Refusal
 slice_answer_was nodes d lent = storing (read_slice_was nodes d) (slice (doc_of nodes) d) lent
 
 unfoldable pub slice_lent_was : List ℕ → ℕ → List ℕ → List ℕ
@@ -178,13 +177,13 @@ unfoldable pub read_changes_was : List ℕ → List ℕ → ℕ → Reading
 read_changes_was nodes rules k =
     and_then (read_nodes_was nodes) (and_then (read_rules rules) (need (ltb k (length (rules_of rules)) && is_sequenced (rule_at (rules_of rules) k)) 11 0))
 
-unfoldable pub changes_answer_was : List ℕ → List ℕ → ℕ → List ℕ → Listed
+unfoldable pub changes_answer_was : List ℕ → List ℕ → ℕ → List ℕ → Result ℕ Refusal
 changes_answer_was nodes rules k lent = storing (read_changes_was nodes rules k) (changes_of nodes rules k) lent
 
 unfoldable pub changes_lent_was : List ℕ → List ℕ → ℕ → List ℕ → List ℕ
 changes_lent_was nodes rules k lent = lent_after (changes_answer_was nodes rules k lent) (changes_of nodes rules k) lent
 
-unfoldable pub sequenced_verdict_was : List ℕ → List ℕ → ℕ → Verdict
+unfoldable pub sequenced_verdict_was : List ℕ → List ℕ → ℕ → Result Verdict Refusal
 sequenced_verdict_was nodes rules k =
     verdict_after (read_changes_was nodes rules k) (on_days_was (doc_of nodes) (referred_by (rules_of rules) k) (rule_at (rules_of rules) k))
 
@@ -195,7 +194,7 @@ read_lent_was n c =
 unfoldable pub read_write_was : ℕ → Lent → List ℕ → Reading
 read_write_was n c image = and_then (read_lent_was n c) (need (leb (length (image_of (nodes_lent n c))) (length image)) 12 0)
 
-unfoldable pub write_answer_was : ℕ → Lent → List ℕ → Output
+unfoldable pub write_answer_was : ℕ → Lent → List ℕ → Result ℕ Refusal
 write_answer_was n c image = output_after (read_write_was n c image) (length (image_of (nodes_lent n c)))
 
 unfoldable pub write_image_was : ℕ → Lent → List ℕ → List ℕ

@@ -8,7 +8,7 @@ use native.Mathlib.Omega.{arith}
 use borrow.Author.Tests.{eqb-true, ne_eqb}
 use lib.ListN.{length, take, drop, set, length-take, length-drop, length-set}
 use lib.Seq.{take-set-lt, take-set-le, drop-set-add, get_or-set_same, get_or-set_other, get_or-take, get_or-drop}
-use Rattle.meaning.specs.declared.Reading.TheVariants.{Accepted, Refused}
+use Rattle.meaning.specs.Reading.{Accepted, Refused}
 use Rattle.meaning.specs.Bytes.{byte, four}
 use Rattle.meaning.specs.Order.{in_order}
 use Rattle.meaning.specs.declared.Form.{Form}

@@ -5,9 +5,9 @@ use mathlib.Core.Bool.{Bool, true, false}
 use Prim.Native.Nat.{ℕ, zero, suc, ◌+◌, ◌-◌, ◌≤◌, ◌<◌}
 use native.Mathlib.Omega.{arith}
 use lib.ListN.{length}
-use Rattle.meaning.specs.declared.Found.TheVariants.{At, Nothing}
-use Rattle.meaning.specs.declared.Rule.{Rule}
+use Rattle.std.specs.Prelude.{Some, None}
 use Rattle.meaning.specs.declared.Verdict.TheVariants.{Holds, Fails}
+use Rattle.meaning.specs.declared.Rule.{Rule}
 use Rattle.meaning.specs.Walk.{pick, found, place}
 use Rattle.meaning.specs.Document.{Doc}
 use Rattle.meaning.specs.Day.{offender, is_change, change_days, first_failing, on_days}
@@ -39,23 +39,23 @@ place-picked c (suc m) (suc n) b h e =
     (went (c b)))
 
 -- the verdict by the first failing day
-days_fail : (doc : Doc) (q r : Rule) (d v : ℕ) → first_failing doc q r ≡ At d → offender doc q r d ≡ At v → Fails d v (place d (change_days doc q r)) ≡ on_days doc q r
+days_fail : (doc : Doc) (q r : Rule) (d v : ℕ) → first_failing doc q r ≡ Some d → offender doc q r d ≡ Some v → Fails d v (place d (change_days doc q r)) ≡ on_days doc q r
 unfolding on_days
 days_fail doc q r d v p e = rw (p, e)
 
-days_hold : (doc : Doc) (q r : Rule) → first_failing doc q r ≡ Nothing → Holds (length (change_days doc q r)) ≡ on_days doc q r
+days_hold : (doc : Doc) (q r : Rule) → first_failing doc q r ≡ None → Holds (length (change_days doc q r)) ≡ on_days doc q r
 unfolding on_days
 days_hold doc q r p = rw p
 
 -- the first j days of the period have no offender
-module _ (doc : Doc) (q r : Rule) (alive : PresentAlive doc) (j : ℕ) (none : (i : ℕ) → i < j → offender doc q r (r.begin + i) ≡ Nothing) where
+module _ (doc : Doc) (q r : Rule) (alive : PresentAlive doc) (j : ℕ) (none : (i : ℕ) → i < j → offender doc q r (r.begin + i) ≡ None) where
   not_found : (d : ℕ) → r.begin ≤ d → d < r.begin + j → found (offender doc q r d) ≡ false
   not_found d a b =
       let e : d ≡ r.begin + (d - r.begin) = omega arith in
       rw (e, none (d - r.begin) (omega arith))
 
   -- a day with an offender, none coming before it, is a change day
-  turns-here : {v : ℕ} → offender doc q r (r.begin + j) ≡ At v → is_change doc q r (r.begin + j) ≡ true
+  turns-here : {v : ℕ} → offender doc q r (r.begin + j) ≡ Some v → is_change doc q r (r.begin + j) ≡ true
   turns-here {v} e =
       ⊎_elim
       (λ l. why_change doc q r (r.begin + j) (inl (omega arith)))
@@ -72,7 +72,7 @@ module _ (doc : Doc) (q r : Rule) (alive : PresentAlive doc) (j : ℕ) (none : (
           omega arith
 
   -- the next one has: the rule fails there, with the change days up to it
-  pub fails_at : r.begin + j < r.end → {v : ℕ} → offender doc q r (r.begin + j) ≡ At v
+  pub fails_at : r.begin + j < r.end → {v : ℕ} → offender doc q r (r.begin + j) ≡ Some v
       → Fails (r.begin + j) v (length (pick (is_change doc q r) r.begin (suc j))) ≡ on_days doc q r
   unfolding first_failing change_days
   fails_at h {v} here =

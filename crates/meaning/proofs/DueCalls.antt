@@ -1,4 +1,5 @@
 -- The three calls refuse exactly as the lines of 01's table are due: the images' own, then 11, then 12.
+use Rattle.std.specs.Prelude.{Err}
 use mathlib.Core.Path.{◌≡◌, refl}
 use mathlib.Core.Bool.{Bool, true, false, ◌&&◌}
 use mathlib.Core.List.{List, [], ◌∷◌}
@@ -8,8 +9,7 @@ use native.Mathlib.Omega.{arith}
 use lib.Dec.{leb, ltb}
 use lib.ListN.{length}
 use Rattle.meaning.specs.declared.Rule.{Rule}
-use Rattle.meaning.specs.declared.Reading.{Reading}
-use Rattle.meaning.specs.declared.Reading.TheVariants.{Accepted, Refused}
+use Rattle.meaning.specs.Reading.{Reading, Accepted}
 use Rattle.meaning.specs.Order.{need, and_then}
 use Rattle.meaning.specs.Nodes.{doc_of, read_nodes}
 use Rattle.meaning.specs.Rules.{is_sequenced, rule_at, rules_of, read_rules}
@@ -29,7 +29,7 @@ roomy list lent = need (leb (length list) (length lent)) 12 0
 -- readings one after the other, grouped in either way
 pub then_assoc : (a b c : Reading) → and_then a (and_then b c) ≡ and_then (and_then a b) c
 then_assoc Accepted b c = refl
-then_assoc (Refused k i) b c = refl
+then_assoc (Err why) b c = refl
 
 room_says : (list lent : List ℕ) → Says (roomy list lent) (line 12 0 (length lent < length list) ∷ [])
 room_says list lent =

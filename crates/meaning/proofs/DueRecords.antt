@@ -7,7 +7,7 @@ use native.Mathlib.Nat.{eq-or-lt_of_le, le_of_suc-le-suc}
 use native.Mathlib.Omega.{arith}
 use borrow.Author.Tests.{eqb-false, ltb-false, leb-true, leb-false}
 use lib.Dec.{eqb, ltb, leb}
-use Rattle.meaning.specs.declared.Reading.TheVariants.{Accepted}
+use Rattle.meaning.specs.Reading.{Accepted}
 use Rattle.meaning.specs.Order.{need, earliest}
 use Rattle.meaning.specs.Document.{Doc, node, is_item, is_version}
 use Rattle.meaning.specs.Nodes.{node_fields, parent_fits, depth, read_record}

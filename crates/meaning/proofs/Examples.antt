@@ -5,9 +5,9 @@ use Prim.Native.Nat.{ℕ}
 use lib.IntN.{ℤ, pos, negsuc}
 use Rattle.meaning.specs.declared.Node.{Node}
 use Rattle.meaning.specs.declared.Rule.{Rule}
-use Rattle.meaning.specs.declared.Reading.TheVariants.{Accepted, Refused}
-use Rattle.meaning.specs.declared.Verdict.TheVariants.{Holds, Fails, Refused as Unjudged}
-use Rattle.meaning.specs.declared.Listed.TheVariants.{Stored, Refused as Unlisted}
+use Rattle.meaning.specs.Reading.{Accepted, Refused}
+use Rattle.meaning.specs.declared.Verdict.TheVariants.{Holds, Fails}
+use Rattle.std.specs.Prelude.{Ok}
 use Rattle.meaning.specs.Document.{of_nodes}
 use Rattle.meaning.specs.Nodes.{doc_of}
 use Rattle.meaning.specs.Rules.{rules_of}
@@ -23,19 +23,19 @@ ex q a = record { asked = q; expected = a }
 -- the seven verdicts, four slices and two lists of change days, each list lent with exactly the room that it needs
 unfoldable pub marked : List Example
 marked =
-    ex (on_rule 0) (told (Holds 4))
-    ∷ ex (on_rule 1) (told (Fails 0 10 1))
-    ∷ ex (on_rule 2) (told (Fails 200 3 3))
-    ∷ ex (on_rule 3) (told (Fails 400 10 5))
-    ∷ ex (on_rule 4) (told (Fails 0 8 1))
-    ∷ ex (on_rule 5) (told (Fails 400 10 4))
-    ∷ ex (on_rule 6) (told (Holds 4))
-    ∷ ex (on_slice 99 0) (stored (Stored 0) [])
-    ∷ ex (on_slice 200 4) (stored (Stored 4) (1 ∷ 3 ∷ 5 ∷ 8 ∷ []))
-    ∷ ex (on_slice 300 4) (stored (Stored 4) (1 ∷ 10 ∷ 12 ∷ 14 ∷ []))
-    ∷ ex (on_slice 450 3) (stored (Stored 3) (1 ∷ 10 ∷ 12 ∷ []))
-    ∷ ex (on_changes 0 4) (stored (Stored 4) (0 ∷ 100 ∷ 300 ∷ 500 ∷ []))
-    ∷ ex (on_changes 2 6) (stored (Stored 6) (0 ∷ 100 ∷ 200 ∷ 300 ∷ 400 ∷ 500 ∷ []))
+    ex (on_rule 0) (told (Ok (Holds 4)))
+    ∷ ex (on_rule 1) (told (Ok (Fails 0 10 1)))
+    ∷ ex (on_rule 2) (told (Ok (Fails 200 3 3)))
+    ∷ ex (on_rule 3) (told (Ok (Fails 400 10 5)))
+    ∷ ex (on_rule 4) (told (Ok (Fails 0 8 1)))
+    ∷ ex (on_rule 5) (told (Ok (Fails 400 10 4)))
+    ∷ ex (on_rule 6) (told (Ok (Holds 4)))
+    ∷ ex (on_slice 99 0) (stored (Ok 0) [])
+    ∷ ex (on_slice 200 4) (stored (Ok 4) (1 ∷ 3 ∷ 5 ∷ 8 ∷ []))
+    ∷ ex (on_slice 300 4) (stored (Ok 4) (1 ∷ 10 ∷ 12 ∷ 14 ∷ []))
+    ∷ ex (on_slice 450 3) (stored (Ok 3) (1 ∷ 10 ∷ 12 ∷ []))
+    ∷ ex (on_changes 0 4) (stored (Ok 4) (0 ∷ 100 ∷ 300 ∷ 500 ∷ []))
+    ∷ ex (on_changes 2 6) (stored (Ok 6) (0 ∷ 100 ∷ 200 ∷ 300 ∷ 400 ∷ 500 ∷ []))
     ∷ []
 
 pub bank_examples : answers bank_nodes bank_rules marked ≡ expecteds marked
@@ -45,13 +45,13 @@ bank_examples = by-computing bank_nodes bank_rules marked refl
 -- refusals 11 and 12, and a list with more room than it needs
 unfoldable pub edges : List Example
 edges =
-    ex (on_rule 7) (told (Unjudged 11 0))
-    ∷ ex (on_slice 36525 9) (stored (Unlisted 11 0) (0 ∷ 0 ∷ 0 ∷ 0 ∷ 0 ∷ 0 ∷ 0 ∷ 0 ∷ 0 ∷ []))
-    ∷ ex (on_slice 200 3) (stored (Unlisted 12 0) (0 ∷ 0 ∷ 0 ∷ []))
-    ∷ ex (on_slice 200 6) (stored (Stored 4) (1 ∷ 3 ∷ 5 ∷ 8 ∷ 0 ∷ 0 ∷ []))
-    ∷ ex (on_changes 1 2) (stored (Unlisted 11 0) (0 ∷ 0 ∷ []))
-    ∷ ex (on_changes 7 2) (stored (Unlisted 11 0) (0 ∷ 0 ∷ []))
-    ∷ ex (on_changes 0 3) (stored (Unlisted 12 0) (0 ∷ 0 ∷ 0 ∷ []))
+    ex (on_rule 7) (told (Refused 11 0))
+    ∷ ex (on_slice 36525 9) (stored (Refused 11 0) (0 ∷ 0 ∷ 0 ∷ 0 ∷ 0 ∷ 0 ∷ 0 ∷ 0 ∷ 0 ∷ []))
+    ∷ ex (on_slice 200 3) (stored (Refused 12 0) (0 ∷ 0 ∷ 0 ∷ []))
+    ∷ ex (on_slice 200 6) (stored (Ok 4) (1 ∷ 3 ∷ 5 ∷ 8 ∷ 0 ∷ 0 ∷ []))
+    ∷ ex (on_changes 1 2) (stored (Refused 11 0) (0 ∷ 0 ∷ []))
+    ∷ ex (on_changes 7 2) (stored (Refused 11 0) (0 ∷ 0 ∷ []))
+    ∷ ex (on_changes 0 3) (stored (Refused 12 0) (0 ∷ 0 ∷ 0 ∷ []))
     ∷ []
 
 pub edge_examples : answers bank_nodes bank_rules edges ≡ expecteds edges
@@ -61,10 +61,10 @@ edge_examples = by-computing bank_nodes bank_rules edges refl
 -- text 70 is not the number 70; two versions of one item are one holder; 2,147,483,647 to −2,147,483,648 is no step of 1
 unfoldable pub slips : List Example
 slips =
-    ex (on_rule 0) (told (Holds 2))
-    ∷ ex (on_rule 1) (told (Holds 1))
-    ∷ ex (on_rule 2) (told (Fails 0 15 1))
-    ∷ ex (on_rule 3) (told (Fails 50 10 2))
+    ex (on_rule 0) (told (Ok (Holds 2)))
+    ∷ ex (on_rule 1) (told (Ok (Holds 1)))
+    ∷ ex (on_rule 2) (told (Ok (Fails 0 15 1)))
+    ∷ ex (on_rule 3) (told (Ok (Fails 50 10 2)))
     ∷ []
 
 pub slip_examples : answers slip_nodes slip_rules slips ≡ expecteds slips
@@ -156,11 +156,11 @@ tells outcome number place day offender count =
 
 -- each kind of answer in 01's numbers
 pub told-examples :
-    (tell_verdict (Holds 4)
-    ∷ tell_verdict (Fails 200 3 5)
-    ∷ tell_verdict (Unjudged 26 6)
-    ∷ tell_listed (Stored 4)
-    ∷ tell_listed (Unlisted 9 8)
+    (tell_verdict (Ok (Holds 4))
+    ∷ tell_verdict (Ok (Fails 200 3 5))
+    ∷ tell_verdict (Refused 26 6)
+    ∷ tell_listed (Ok 4)
+    ∷ tell_listed (Refused 9 8)
     ∷ tell_reading Accepted
     ∷ tell_reading (Refused 7 5)
     ∷ [])

@@ -6,10 +6,9 @@ use Prim.Native.Nat.{ℕ, zero, suc, ◌≤◌, ◌<◌}
 use native.Mathlib.Omega.{arith}
 use lib.ListN.{length}
 use Rattle.meaning.specs.declared.Rule.{Rule}
-use Rattle.meaning.specs.declared.Found.{Found}
-use Rattle.meaning.specs.declared.Found.TheVariants.{At, Nothing}
+use Rattle.std.specs.Prelude.{Some, None}
 use Rattle.meaning.specs.declared.Verdict.TheVariants.{Holds, Fails}
-use Rattle.meaning.specs.Walk.{found, place}
+use Rattle.meaning.specs.Walk.{found, place, Found}
 use Rattle.meaning.specs.Document.{Doc}
 use Rattle.meaning.specs.Day.{present_on, offends, offender, is_change, change_days, first_failing, on_days}
 use Rattle.meaning.proofs.Basics.{went, clear, le_or_lt}
@@ -34,7 +33,7 @@ NoFault doc q r = (d v : ℕ) → r.begin ≤ d → d < r.end → v < doc.size �
 
 module _ (doc : Doc) (q r : Rule) where
   -- nothing was found on a day: no record offends
-  none-on : (d : ℕ) → offender doc q r d ≡ Nothing → (v : ℕ) → v < doc.size → offends doc (present_on doc d) q r v ≡ false
+  none-on : (d : ℕ) → offender doc q r d ≡ None → (v : ℕ) → v < doc.size → offends doc (present_on doc d) q r v ≡ false
   unfolding offender
   none-on d e v h = first-nothing (offends doc (present_on doc d) q r) 0 doc.size e v (omega arith) (omega arith)
 
@@ -42,24 +41,24 @@ module _ (doc : Doc) (q r : Rule) where
   pub record Comes : Type 0 where
     pub day : ℕ
     pub version : ℕ
-    pub first_day : first_failing doc q r ≡ At day
-    pub lowest : offender doc q r day ≡ At version
+    pub first_day : first_failing doc q r ≡ Some day
+    pub lowest : offender doc q r day ≡ Some version
     pub verdict : on_days doc q r ≡ Fails day version (place day (change_days doc q r))
 
-  comes : (d : ℕ) (x : Found) → first_failing doc q r ≡ At d → offender doc q r d ≡ x → found x ≡ true → Comes
+  comes : (d : ℕ) (x : Found) → first_failing doc q r ≡ Some d → offender doc q r d ≡ x → found x ≡ true → Comes
   unfolding on_days
-  comes d (At v) e o t = record { day = d; version = v; first_day = e; lowest = o; verdict = rw (e, o) }
-  comes d Nothing e o t = absurd (false≢true t)
+  comes d (Some v) e o t = record { day = d; version = v; first_day = e; lowest = o; verdict = rw (e, o) }
+  comes d None e o t = absurd (false≢true t)
 
-  pub on-days : ((first_failing doc q r ≡ Nothing) × (on_days doc q r ≡ Holds (length (change_days doc q r)))) ⊎ Comes
+  pub on-days : ((first_failing doc q r ≡ None) × (on_days doc q r ≡ Holds (length (change_days doc q r)))) ⊎ Comes
   unfolding on_days first_failing
   on-days = go (first_failing doc q r) refl
     where
-      go : (x : Found) → first_failing doc q r ≡ x → ((first_failing doc q r ≡ Nothing) × (on_days doc q r ≡ Holds (length (change_days doc q r)))) ⊎ Comes
-      go Nothing e = inl (e, rw e)
-      go (At d) e = inr (comes d (offender doc q r d) e refl (first_found (λ c. found (offender doc q r c)) r.begin (days r) d e).passes)
+      go : (x : Found) → first_failing doc q r ≡ x → ((first_failing doc q r ≡ None) × (on_days doc q r ≡ Holds (length (change_days doc q r)))) ⊎ Comes
+      go None e = inl (e, rw e)
+      go (Some d) e = inr (comes d (offender doc q r d) e refl (first_found (λ c. found (offender doc q r c)) r.begin (days r) d e).passes)
 
-  none_found : first_failing doc q r ≡ Nothing → NoFault doc q r
+  none_found : first_failing doc q r ≡ None → NoFault doc q r
   unfolding first_failing
   none_found e d v a b h =
       none-on d (nowhere (offender doc q r d) (first-nothing (λ c. found (offender doc q r c)) r.begin (days r) e d a (omega arith))) v h
@@ -113,7 +112,7 @@ module _ (doc : Doc) (q r : Rule) where
       ⊎_elim
       (λ y. y)
       (λ z.
-      let quiet-day : offender doc q r c ≡ Nothing = first-none (offends doc (present_on doc c) q r) 0 doc.size (λ u a b. f.first_day c u h (omega arith) (omega arith)) in
+      let quiet-day : offender doc q r c ≡ None = first-none (offends doc (present_on doc c) q r) 0 doc.size (λ u a b. f.first_day c u h (omega arith) (omega arith)) in
       let same : offender doc q r c ≡ offender doc q r (suc c) = same-as_before doc s q r c (omega arith) z in
       absurd (clear f.offence (none-on (suc c) (sym same ∙ quiet-day) v f.here)))
       (went (is_change doc q r (suc c)))

@@ -14,7 +14,7 @@ use Rattle.meaning.specs.Select.{reads}
 use Rattle.meaning.specs.Day.{turns, is_change, change_days}
 use Rattle.meaning.proofs.Basics.{went, le_or_lt}
 use Rattle.meaning.proofs.Picks.{pick_yes, pick_no, pick-skip}
-use Rattle.meaning.proofs.Walks.{None}
+use Rattle.meaning.proofs.Walks.{NonePass}
 use Rattle.meaning.proofs.Changes.{days}
 
 unfoldable pub elem : ℕ → List ℕ → Bool
@@ -79,7 +79,7 @@ module _ (c : ℕ → Bool) (xs : List ℕ) (m : ℕ) where
       let n : ℕ = m - suc d in
       let e : m - d ≡ suc n = omega arith in
       let f : suc d + n - j ≡ m - j = omega arith in
-      let none : None c (suc d) (j - suc d) = λ k a b. quiet k (omega arith) (next-none xs d m k (omega arith) (omega arith)) in
+      let none : NonePass c (suc d) (j - suc d) = λ k a b. quiet k (omega arith) (next-none xs d m k (omega arith) (omega arith)) in
       let rest : pick c (suc d) n ≡ pick c j (m - j) = pick-skip c (suc d) j n (omega arith) (omega arith) none ∙ ap (pick c j) f in
       ap (pick c d) e
       ∙ ⊎_elim

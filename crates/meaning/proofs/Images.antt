@@ -9,7 +9,7 @@ use borrow.Author.Tests.{eqb-false, ne_eqb}
 use lib.Dec.{eqb}
 use lib.ListN.{take, drop}
 use lib.Seq.{get_or-drop}
-use Rattle.meaning.specs.declared.Reading.TheVariants.{Accepted}
+use Rattle.meaning.specs.Reading.{Accepted}
 use Rattle.meaning.specs.Bytes.{byte}
 use Rattle.meaning.specs.Order.{in_order}
 use Rattle.meaning.specs.declared.Form.{Form}

@@ -1,4 +1,5 @@
 -- Lines of a table of refusals, each with its number, the place it shows and when it is due; which one is the first due, and that a reading says so.
+use Rattle.std.specs.Prelude.{Err}
 use mathlib.Core.Path.{◌≡◌, refl, sym, ap, ap₂, ◌∙◌, subst₂}
 use mathlib.Core.Logic.{◌↔◌, ◌⊎◌, inl, inr, ⊎_elim}
 use mathlib.Core.Bool.{Bool, true, false}
@@ -6,11 +7,10 @@ use mathlib.Core.List.{List, [], ◌∷◌, ◌++◌}
 use Prim.Native.Nat.{ℕ, zero, suc, ◌+◌, ◌≤◌, ◌<◌}
 use native.Mathlib.Nat.{eq-or-lt_of_le}
 use native.Mathlib.Omega.{arith}
-use Rattle.meaning.specs.declared.Reading.{Reading}
-use Rattle.meaning.specs.declared.Reading.TheVariants.{Accepted, Refused}
+use Rattle.meaning.specs.Reading.{Reading, Accepted, Refused}
 use Rattle.meaning.specs.Order.{need, and_then, earliest}
 use Rattle.meaning.proofs.Basics.{clear}
-use Rattle.meaning.proofs.Orders.{contrary, came}
+use Rattle.meaning.proofs.Orders.{contrary, came, refused_alike}
 
 -- a line of the table at one place
 pub record Line : Type 1 where
@@ -55,7 +55,7 @@ pub accepts : {ls : List Line} → NoneDue ls → Says Accepted ls
 accepts n = record { none = λ e. n; first = λ a b e. absurd (contrary refl e) }
 
 refuses : {ls : List Line} {number place : ℕ} → FirstDue number place ls → Says (Refused number place) ls
-refuses {ls} f = record { none = λ e. absurd (contrary e refl); first = λ a b e. subst₂ (λ (x y : ℕ). FirstDue x y ls) (cc) (cc) f }
+refuses {ls} f = record { none = λ e. absurd (contrary e refl); first = λ a b e. let s = refused_alike e in subst₂ (λ (x y : ℕ). FirstDue x y ls) s.0 s.1 f }
 
 -- One line: its test fails exactly where it is due.
 pub need-says : (t : Bool) {number place : ℕ} {due : Type 0} → (t ≡ true → due → ⊥) → (t ≡ false → due) → Says (need t number place) (line number place due ∷ [])
@@ -85,7 +85,7 @@ then_says Accepted y {ls} {ms} s f =
     let n = s.none refl in
     let later = f refl in
     record { none = λ e. none_then ls ms n (later.none e); first = λ a b e. first-later a b ls ms n (later.first a b e) }
-then_says (Refused k i) y {ls} {ms} s f = refuses (first_here k i ls ms (s.first k i refl))
+then_says (Err why) y {ls} {ms} s f = refuses (first_here why.number why.place ls ms (s.first why.number why.place refl))
 
 -- the lines of n places: those of a place matter where every earlier place is accepted
 pub each-says : (f : ℕ → Reading) (lines : ℕ → List Line) (i n : ℕ)
@@ -100,7 +100,7 @@ each-says f lines i (suc n) s =
 -- nothing more to be tested
 pub last_says : (x : Reading) {ls : List Line} → Says x ls → Says (and_then x Accepted) ls
 last_says Accepted s = s
-last_says (Refused k i) s = s
+last_says (Err why) s = s
 
 -- a test of one place
 pub one-says : (f : ℕ → Reading) {ls : List Line} → Says (f 0) ls → Says (earliest f 0 1) ls

@@ -5,7 +5,7 @@ use mathlib.Core.Bool.{Bool, true, false, ◌||◌, cond}
 use Prim.Native.Nat.{ℕ, zero, suc, ◌+◌, ◌-◌, ◌≤◌, ◌<◌}
 use native.Mathlib.Numerals.{add-one}
 use native.Mathlib.Omega.{arith}
-use Rattle.meaning.specs.declared.Found.TheVariants.{At, Nothing}
+use Rattle.std.specs.Prelude.{Some, None}
 use Rattle.meaning.specs.Walk.{any, first}
 use Rattle.meaning.proofs.Basics.{went}
 
@@ -17,7 +17,7 @@ module _ (f : ℕ → Bool) (n : ℕ) where
   pub first-start : first f 0 (n - 0) ≡ first f 0 n
   first-start = let e : n - 0 ≡ n = omega arith in rw e
 
-  pub first-yes : (i : ℕ) → i < n → f i ≡ true → first f i (n - i) ≡ At i
+  pub first-yes : (i : ℕ) → i < n → f i ≡ true → first f i (n - i) ≡ Some i
   unfolding first
   first-yes i h e = rw (one_less i n h, e)
 
@@ -25,7 +25,7 @@ module _ (f : ℕ → Bool) (n : ℕ) where
   unfolding first
   first-no i h e = rw (one_less i n h, e, add-one i)
 
-  pub first-end : (i : ℕ) → n ≤ i → first f i (n - i) ≡ Nothing
+  pub first-end : (i : ℕ) → n ≤ i → first f i (n - i) ≡ None
   unfolding first
   first-end i h = let e : n - i ≡ 0 = omega arith in rw e
 

@@ -1,4 +1,6 @@
 -- Tests in their order: accepted where every test is at every place; what it is to be refused first, at the lowest place of the earliest test.
+use Rattle.meaning.specs.declared.Refusal.{Refusal}
+use Rattle.std.specs.Prelude.{Err}
 use mathlib.Core.Path.{◌≡◌, refl, sym, ◌∙◌, ap}
 use mathlib.Core.Logic.{◌⊎◌, inl, inr, ⊎_elim}
 use mathlib.Core.Bool.{Bool, true, false}
@@ -6,13 +8,18 @@ use mathlib.Core.List.{List, [], ◌∷◌}
 use Prim.Native.Nat.{ℕ, zero, suc, ◌+◌, ◌≤◌, ◌<◌}
 use native.Mathlib.Nat.{eq-or-lt_of_le}
 use native.Mathlib.Omega.{arith}
-use Rattle.meaning.specs.declared.Reading.{Reading}
-use Rattle.meaning.specs.declared.Reading.TheVariants.{Accepted, Refused}
+use Rattle.meaning.specs.Reading.{Reading, Accepted, Refused}
 use Rattle.meaning.specs.Order.{need, and_then, earliest, Test, in_order}
 
 -- nothing is both accepted and refused
 pub contrary : {x : Reading} {k i : ℕ} → x ≡ Accepted → x ≡ Refused k i → ⊥
 contrary p q = let z : ◌≡◌ {A = ℕ} 0 1 = cc in omega arith
+
+-- a refusal tells its number and its place
+pub refused_alike : {A : Type 0} {k i l j : ℕ} → Refused {A = A} k i ≡ Refused l j → (k ≡ l) × (i ≡ j)
+refused_alike {A} {k} {i} {l} {j} e =
+    let told : ◌≡◌ {A = Refusal} (record { number = k; place = i }) (record { number = l; place = j }) = cc in
+    (ap (λ (r : Refusal). r.number) told, ap (λ (r : Refusal). r.place) told)
 
 pub need-accepted : (t : Bool) (k i : ℕ) → need t k i ≡ Accepted → t ≡ true
 need-accepted true k i e = refl
@@ -23,7 +30,7 @@ needed t k i e = rw e
 
 pub then_accepted : (a b : Reading) → and_then a b ≡ Accepted → (a ≡ Accepted) × (b ≡ Accepted)
 then_accepted Accepted b e = (refl, e)
-then_accepted (Refused k i) b e = absurd (contrary e refl)
+then_accepted (Err why) b e = absurd (contrary e refl)
 
 pub then_both : (a b : Reading) → a ≡ Accepted → b ≡ Accepted → and_then a b ≡ Accepted
 then_both a b p q = rw p q
@@ -31,7 +38,7 @@ then_both a b p q = rw p q
 -- one of two, and so on for a reading
 pub came : (a : Reading) → (a ≡ Accepted) ⊎ ((k : ℕ) × (i : ℕ) × (a ≡ Refused k i))
 came Accepted = inl refl
-came (Refused k i) = inr (k, i, refl)
+came (Err why) = inr (why.number, why.place, refl)
 
 -- accepted at each of the places i, i + 1, .., n of them
 abbrev pub All : (ℕ → Reading) → ℕ → ℕ → Type 0

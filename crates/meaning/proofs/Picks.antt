@@ -11,7 +11,7 @@ use lib.ListN.{length, get_or}
 use borrow.Author.Tests.{eqb-true, ne_eqb}
 use Rattle.meaning.specs.Walk.{any, count, pick}
 use Rattle.meaning.proofs.Basics.{went}
-use Rattle.meaning.proofs.Walks.{None}
+use Rattle.meaning.proofs.Walks.{NonePass}
 
 -- each number is lower than the next one
 abbrev pub Below : ℕ → List ℕ → Type 0
@@ -93,7 +93,7 @@ module _ (f : ℕ → Bool) where
       (eq-or-lt_of_le p.from)
 
   -- numbers that do not pass can be walked past
-  pub pick-skip : (i j n : ℕ) → i ≤ j → j ≤ i + n → None f i (j - i) → pick f i n ≡ pick f j (i + n - j)
+  pub pick-skip : (i j n : ℕ) → i ≤ j → j ≤ i + n → NonePass f i (j - i) → pick f i n ≡ pick f j (i + n - j)
   pick-skip i j zero h l r =
       let e : i ≡ j = omega arith in
       let z : i + 0 - j ≡ 0 = omega arith in
@@ -104,7 +104,7 @@ module _ (f : ℕ → Bool) where
       (λ lt.
       let m : suc i + n - j ≡ i + suc n - j = omega arith in
       let top : j ≤ suc i + n = omega arith in
-      let rest : None f (suc i) (j - suc i) = λ k a b. r k (omega arith) (omega arith) in
+      let rest : NonePass f (suc i) (j - suc i) = λ k a b. r k (omega arith) (omega arith) in
       pick_no f i n (r i (omega arith) (omega arith)) ∙ pick-skip (suc i) j n lt top rest ∙ ap (pick f j) m)
       (eq-or-lt_of_le h)
 

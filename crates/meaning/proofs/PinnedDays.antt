@@ -5,7 +5,7 @@ use Prim.Native.Nat.{ℕ}
 use lib.IntN.{pos}
 use Rattle.meaning.specs.declared.Verdict.{Verdict}
 use Rattle.meaning.specs.declared.Verdict.TheVariants.{Holds, Fails}
-use Rattle.meaning.specs.declared.Listed.TheVariants.{Stored}
+use Rattle.std.specs.Prelude.{Ok}
 use Rattle.meaning.specs.Document.{of_nodes}
 use Rattle.meaning.proofs.Asking.{on_rule, on_changes, told, stored}
 use Rattle.meaning.proofs.Opened.{opened}
@@ -23,14 +23,14 @@ on_shelf ps = map (pin_to (nodes shelf)) ps
 
 -- the version in record 15 of the bank eight deep, number 5, is selected: a datatype from 6 on fails there; or it is not
 abbrev selects : List ℕ → Posed
-selects path = pose (table (between (pos 6) (pos 9) (rule 5 0 path 0) ∷ [])) (on_rule 0) (told (Fails 0 15 1))
+selects path = pose (table (between (pos 6) (pos 9) (rule 5 0 path 0) ∷ [])) (on_rule 0) (told (Ok (Fails 0 15 1)))
 
 abbrev passes : List ℕ → Posed
-passes path = pose (table (between (pos 6) (pos 9) (rule 5 0 path 0) ∷ [])) (on_rule 0) (told (Holds 1))
+passes path = pose (table (between (pos 6) (pos 9) (rule 5 0 path 0) ∷ [])) (on_rule 0) (told (Ok (Holds 1)))
 
 -- this record is the first that the path selects: a key on the versions, which have no value
 abbrev first_selected : List ℕ → ℕ → Posed
-first_selected path v = pose (table (rule 1 0 path 0 ∷ [])) (on_rule 0) (told (Fails 0 v 1))
+first_selected path v = pose (table (rule 1 0 path 0 ∷ [])) (on_rule 0) (told (Ok (Fails 0 v 1)))
 
 unfoldable pub paths : List Posed
 paths =
@@ -70,10 +70,10 @@ plugs kind = rule kind 0 (1 ∷ 5 ∷ []) 6
 
 -- the verdict on this rule; on the plugs' reference to the mixers' unique serials in this period
 abbrev judges : List ℕ → Verdict → Posed
-judges r found = pose (table (r ∷ [])) (on_rule 0) (told found)
+judges r found = pose (table (r ∷ [])) (on_rule 0) (told (Ok found))
 
 abbrev refers : ℕ → ℕ → Verdict → Posed
-refers begin end found = pose (table (mixers 2 ∷ during begin end (to 0 (plugs 3)) ∷ [])) (on_rule 1) (told found)
+refers begin end found = pose (table (mixers 2 ∷ during begin end (to 0 (plugs 3)) ∷ [])) (on_rule 1) (told (Ok found))
 
 unfoldable pub day_values : List Posed
 day_values =
@@ -96,10 +96,10 @@ day_values =
     ∷ refers 40 100 (Fails 70 15 4)
     ∷ refers 75 100 (Fails 75 15 1)
     ∷ refers 50 70 (Holds 2)
-    ∷ pose (table (during 0 75 (to 1 (plugs 3)) ∷ plugs 1 ∷ [])) (on_rule 0) (told (Holds 5))
+    ∷ pose (table (during 0 75 (to 1 (plugs 3)) ∷ plugs 1 ∷ [])) (on_rule 0) (told (Ok (Holds 5)))
     -- reference to a rule whose field is the version itself: no value there
-    ∷ pose (table (during 0 20 (to 1 (plugs 3)) ∷ rule 2 0 (1 ∷ 2 ∷ 3 ∷ []) 0 ∷ [])) (on_rule 0) (told (Holds 1))
-    ∷ pose (table (during 0 20 (to 1 (plugs 3)) ∷ rule 2 0 (1 ∷ 2 ∷ []) 0 ∷ [])) (on_rule 0) (told (Fails 0 15 1))
+    ∷ pose (table (during 0 20 (to 1 (plugs 3)) ∷ rule 2 0 (1 ∷ 2 ∷ 3 ∷ []) 0 ∷ [])) (on_rule 0) (told (Ok (Holds 1)))
+    ∷ pose (table (during 0 20 (to 1 (plugs 3)) ∷ rule 2 0 (1 ∷ 2 ∷ []) 0 ∷ [])) (on_rule 0) (told (Ok (Fails 0 15 1)))
     -- cardinality: field versions with and without a value; both bounds
     ∷ judges (during 40 50 (between (pos 1) (pos 1) (mixers 4))) (Fails 40 8 1)
     ∷ judges (during 40 50 (between (pos 1) (pos 2) (mixers 4))) (Holds 1)
@@ -122,15 +122,15 @@ day-values = by-reading (nodes shelf) (of_nodes shelf) shelf_held day_values ref
 unfoldable pub day_lists : List Posed
 day_lists =
     -- days on which a selected version or a field version begins or ends, from the period's first day on and before its end
-    pose (table (mixers 1 ∷ [])) (on_changes 0 6) (stored (Stored 6) (0 ∷ 20 ∷ 40 ∷ 50 ∷ 60 ∷ 100 ∷ []))
-    ∷ pose (table (during 5 60 (mixers 1) ∷ [])) (on_changes 0 4) (stored (Stored 4) (5 ∷ 20 ∷ 40 ∷ 50 ∷ []))
-    ∷ pose (table (during 20 21 (mixers 1) ∷ [])) (on_changes 0 1) (stored (Stored 1) (20 ∷ []))
+    pose (table (mixers 1 ∷ [])) (on_changes 0 6) (stored (Ok 6) (0 ∷ 20 ∷ 40 ∷ 50 ∷ 60 ∷ 100 ∷ []))
+    ∷ pose (table (during 5 60 (mixers 1) ∷ [])) (on_changes 0 4) (stored (Ok 4) (5 ∷ 20 ∷ 40 ∷ 50 ∷ []))
+    ∷ pose (table (during 20 21 (mixers 1) ∷ [])) (on_changes 0 1) (stored (Ok 1) (20 ∷ []))
     -- field 0: the selected versions alone; a path that selects nothing
-    ∷ pose (table (rule 1 0 (1 ∷ 2 ∷ []) 0 ∷ [])) (on_changes 0 2) (stored (Stored 2) (0 ∷ 100 ∷ []))
-    ∷ pose (table (during 7 99 (rule 1 0 (1 ∷ 9 ∷ []) 3) ∷ [])) (on_changes 0 1) (stored (Stored 1) (7 ∷ []))
+    ∷ pose (table (rule 1 0 (1 ∷ 2 ∷ []) 0 ∷ [])) (on_changes 0 2) (stored (Ok 2) (0 ∷ 100 ∷ []))
+    ∷ pose (table (during 7 99 (rule 1 0 (1 ∷ 9 ∷ []) 3) ∷ [])) (on_changes 0 1) (stored (Ok 1) (7 ∷ []))
     -- a reference reads what its own rule and the referred one read; a unique does not
-    ∷ pose (table (mixers 2 ∷ to 0 (plugs 3) ∷ [])) (on_changes 1 9) (stored (Stored 9) (0 ∷ 20 ∷ 40 ∷ 50 ∷ 60 ∷ 70 ∷ 75 ∷ 80 ∷ 100 ∷ []))
-    ∷ pose (table (mixers 2 ∷ plugs 2 ∷ [])) (on_changes 1 8) (stored (Stored 8) (0 ∷ 20 ∷ 40 ∷ 50 ∷ 70 ∷ 75 ∷ 80 ∷ 100 ∷ []))
+    ∷ pose (table (mixers 2 ∷ to 0 (plugs 3) ∷ [])) (on_changes 1 9) (stored (Ok 9) (0 ∷ 20 ∷ 40 ∷ 50 ∷ 60 ∷ 70 ∷ 75 ∷ 80 ∷ 100 ∷ []))
+    ∷ pose (table (mixers 2 ∷ plugs 2 ∷ [])) (on_changes 1 8) (stored (Ok 8) (0 ∷ 20 ∷ 40 ∷ 50 ∷ 70 ∷ 75 ∷ 80 ∷ 100 ∷ []))
     ∷ []
 
 pub day-lists : Right (on_shelf day_lists)
@@ -139,7 +139,7 @@ day-lists = by-reading (nodes shelf) (of_nodes shelf) shelf_held day_lists refl
 
 -- the versions of a name are unique by their own values
 abbrev own_unique : ℕ → Verdict → Pin
-own_unique name found = pin (nodes signs) (table (rule 2 0 (1 ∷ name ∷ []) 0 ∷ [])) (on_rule 0) (told found)
+own_unique name found = pin (nodes signs) (table (rule 2 0 (1 ∷ name ∷ []) 0 ∷ [])) (on_rule 0) (told (Ok found))
 
 unfoldable pub day_signs : List Pin
 day_signs =

@@ -1,4 +1,5 @@
 -- Pinned examples of request 5 of 02: what a nil does under each kind of rule, on one day and in windows.
+use Rattle.std.specs.Prelude.{Ok}
 use mathlib.Core.Path.{refl}
 use mathlib.Core.List.{List, [], ◌∷◌, map}
 use Prim.Native.Nat.{ℕ}
@@ -30,10 +31,10 @@ plug kind mode = rule kind mode (1 ∷ 5 ∷ []) 6
 
 -- the verdict on a rule over this period; on a reference to the second rule, which is a unique
 abbrev judges : ℕ → ℕ → List ℕ → Verdict → Posed
-judges begin end r found = pose (table (during begin end r ∷ [])) (on_rule 0) (told found)
+judges begin end r found = pose (table (during begin end r ∷ [])) (on_rule 0) (told (Ok found))
 
 abbrev refers : ℕ → ℕ → List ℕ → List ℕ → Verdict → Posed
-refers begin end r q found = pose (table (during begin end (to 1 r) ∷ q ∷ [])) (on_rule 0) (told found)
+refers begin end r q found = pose (table (during begin end (to 1 r) ∷ q ∷ [])) (on_rule 0) (told (Ok found))
 
 unfoldable pub nil_days : List Posed
 nil_days =
@@ -108,7 +109,7 @@ nil-windows = by-reading (nodes unknown) (of_nodes unknown) unknown-held nil_win
 
 -- losses 0 in record 5, 100 in 6, 160 in 12 and what is given in 8; the steps from one to the next are to lie in low .. high
 abbrev steps : Node → ℤ → ℤ → Verdict → Pin
-steps between8 low high found = pin (nodes (steps_by between8)) (table (between low high (rule 5 1 (1 ∷ 2 ∷ []) 4) ∷ [])) (on_rule 0) (told found)
+steps between8 low high found = pin (nodes (steps_by between8)) (table (between low high (rule 5 1 (1 ∷ 2 ∷ []) 4) ∷ [])) (on_rule 0) (told (Ok found))
 
 unfoldable pub nil_steps : List Pin
 nil_steps =

@@ -4,8 +4,8 @@ use mathlib.Core.List.{List, [], ◌∷◌, ◌++◌}
 use Prim.Native.Nat.{ℕ, suc, ◌*◌}
 use lib.ListN.{drop, replicate}
 use Rattle.meaning.specs.Block.{node_form}
-use Rattle.meaning.specs.declared.Verdict.TheVariants.{Refused as Unjudged}
-use Rattle.meaning.specs.declared.Listed.TheVariants.{Stored, Refused as Unlisted}
+use Rattle.meaning.specs.Reading.{Refused}
+use Rattle.std.specs.Prelude.{Ok}
 use Rattle.meaning.proofs.Asking.{on_rule, on_slice, on_changes, told, stored}
 use Rattle.meaning.proofs.Opened.{opened}
 use Rattle.meaning.specs.Bytes.{pair, quad}
@@ -16,11 +16,11 @@ use Rattle.meaning.proofs.PinnedImages.{little, deep, items, full_block, last_bl
 
 -- the slice of a day from this image, into a list with exactly the room it needs
 abbrev sliced : List ℕ → ℕ → List ℕ → ℕ → Pin
-sliced image day list n = pin image [] (on_slice day n) (stored (Stored n) list)
+sliced image day list n = pin image [] (on_slice day n) (stored (Ok n) list)
 
 -- this image is refused with this number and place
 abbrev refused : List ℕ → ℕ → ℕ → Pin
-refused image number place = pin image [] (on_slice 20 2) (stored (Unlisted number place) (0 ∷ 0 ∷ []))
+refused image number place = pin image [] (on_slice 20 2) (stored (Refused number place) (0 ∷ 0 ∷ []))
 
 unfoldable pub node_blocks : List Pin
 node_blocks =
@@ -161,14 +161,14 @@ node_trees =
     ∷ refused (in_node 5 14 (quad 2) (in_node 6 8 (pair 31) little)) 7 6
     ∷ refused (in_node 5 14 (quad 2) (in_node 7 6 (pair 61) little)) 9 5
     -- 11: the day after the last; ahead of it the image; 12: one place too few; more room than is needed is left as it was
-    ∷ pin little [] (on_slice 36525 0) (stored (Unlisted 11 0) [])
-    ∷ pin (in_node 7 6 (pair 61) little) [] (on_slice 36525 0) (stored (Unlisted 10 0) [])
-    ∷ pin little [] (on_slice 29 2) (stored (Unlisted 12 0) (0 ∷ 0 ∷ []))
-    ∷ pin little [] (on_slice 29 4) (stored (Stored 3) (1 ∷ 3 ∷ 6 ∷ 0 ∷ []))
-    ∷ pin little [] (on_slice 9 0) (stored (Stored 0) [])
+    ∷ pin little [] (on_slice 36525 0) (stored (Refused 11 0) [])
+    ∷ pin (in_node 7 6 (pair 61) little) [] (on_slice 36525 0) (stored (Refused 10 0) [])
+    ∷ pin little [] (on_slice 29 2) (stored (Refused 12 0) (0 ∷ 0 ∷ []))
+    ∷ pin little [] (on_slice 29 4) (stored (Ok 3) (1 ∷ 3 ∷ 6 ∷ 0 ∷ []))
+    ∷ pin little [] (on_slice 9 0) (stored (Ok 0) [])
     -- the other two calls refuse a node image alike, ahead of the rules
-    ∷ pin (in_node 7 6 (pair 61) little) [] (on_rule 0) (told (Unjudged 10 0))
-    ∷ pin (in_node 3 18 (1 ∷ []) little) [] (on_changes 0 1) (stored (Unlisted 4 3) (0 ∷ []))
+    ∷ pin (in_node 7 6 (pair 61) little) [] (on_rule 0) (told (Refused 10 0))
+    ∷ pin (in_node 3 18 (1 ∷ []) little) [] (on_changes 0 1) (stored (Refused 4 3) (0 ∷ []))
     ∷ []
 
 pub node-trees : Right node_trees

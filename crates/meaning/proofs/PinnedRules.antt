@@ -5,8 +5,9 @@ use Prim.Native.Nat.{ℕ}
 use lib.IntN.{pos, negsuc}
 use lib.ListN.{drop, replicate}
 use Rattle.meaning.specs.declared.Verdict.{Verdict}
-use Rattle.meaning.specs.declared.Verdict.TheVariants.{Holds, Fails, Refused as Unjudged}
-use Rattle.meaning.specs.declared.Listed.TheVariants.{Stored, Refused as Unlisted}
+use Rattle.meaning.specs.declared.Verdict.TheVariants.{Holds, Fails}
+use Rattle.meaning.specs.Reading.{Refused}
+use Rattle.std.specs.Prelude.{Ok}
 use Rattle.meaning.specs.Document.{of_nodes}
 use Rattle.meaning.proofs.Asking.{on_rule, on_changes, told, stored}
 use Rattle.meaning.proofs.Opened.{opened}
@@ -22,7 +23,7 @@ on_lone ps = map (pin_to (nodes lone)) ps
 
 -- this image is refused with this number and place, though rule 0 is asked for
 abbrev refused : List ℕ → ℕ → ℕ → Posed
-refused image number place = pose image (on_rule 0) (told (Unjudged number place))
+refused image number place = pose image (on_rule 0) (told (Refused number place))
 
 -- a table of a plain rule and this one is refused at the latter
 abbrev refused_rule : ℕ → List ℕ → Posed
@@ -30,7 +31,7 @@ refused_rule number r = refused (table (plain ∷ r ∷ [])) number 1
 
 -- a table of this rule alone is read: the verdict
 abbrev read : List ℕ → Verdict → Posed
-read r found = pose (table (r ∷ [])) (on_rule 0) (told found)
+read r found = pose (table (r ∷ [])) (on_rule 0) (told (Ok found))
 
 -- a path of one name, and of eight
 abbrev one : List ℕ
@@ -68,10 +69,10 @@ rule_blocks =
     ∷ refused (spoilt 8 (6 ∷ []) ten_rules ++ put 9 (1 ∷ []) last_rule) 22 1
     ∷ refused (ten_rules ++ spoilt 8 (6 ∷ []) last_rule) 25 10
     -- all is well: eleven rules in two blocks; rule 10 is another than rule 0, and there is no rule 11
-    ∷ pose (ten_rules ++ last_rule) (on_rule 0) (told (Fails 0 1 1))
-    ∷ pose (ten_rules ++ last_rule) (on_rule 9) (told (Fails 0 1 1))
-    ∷ pose (ten_rules ++ last_rule) (on_rule 10) (told (Holds 1))
-    ∷ pose (ten_rules ++ last_rule) (on_rule 11) (told (Unjudged 11 0))
+    ∷ pose (ten_rules ++ last_rule) (on_rule 0) (told (Ok (Fails 0 1 1)))
+    ∷ pose (ten_rules ++ last_rule) (on_rule 9) (told (Ok (Fails 0 1 1)))
+    ∷ pose (ten_rules ++ last_rule) (on_rule 10) (told (Ok (Holds 1)))
+    ∷ pose (ten_rules ++ last_rule) (on_rule 11) (told (Refused 11 0))
     ∷ []
 
 pub rule-blocks : Right (on_lone rule_blocks)
@@ -192,22 +193,22 @@ rule_orders =
     ∷ refused (table (plain ∷ counting ∷ refers 1 ∷ [])) 26 2
     ∷ refused (table (plain ∷ rule 5 0 one 0 ∷ refers 1 ∷ [])) 26 2
     -- a key and a unique are referred to, forward too
-    ∷ pose (table (refers 2 ∷ refers 1 ∷ [])) (on_rule 0) (told (Unjudged 26 0))
-    ∷ pose (table (refers 1 ∷ plain ∷ [])) (on_rule 0) (told (Holds 1))
-    ∷ pose (table (rule 2 0 one 0 ∷ refers 0 ∷ [])) (on_rule 1) (told (Holds 1))
+    ∷ pose (table (refers 2 ∷ refers 1 ∷ [])) (on_rule 0) (told (Refused 26 0))
+    ∷ pose (table (refers 1 ∷ plain ∷ [])) (on_rule 0) (told (Ok (Holds 1)))
+    ∷ pose (table (rule 2 0 one 0 ∷ refers 0 ∷ [])) (on_rule 1) (told (Ok (Holds 1)))
     -- 24 ahead of 25 in a rule; 25 at a low rule ahead of 24 at a high one; 25 at a high rule ahead of 26 at a low one
     ∷ refused_rule 24 (put 49 (1 ∷ []) (rule 6 0 one 0))
     ∷ refused (table (rule 6 0 one 0 ∷ put 49 (1 ∷ []) plain ∷ [])) 25 0
     ∷ refused (table (refers 9 ∷ rule 6 0 one 0 ∷ [])) 25 1
     ∷ refused (table (plain ∷ refers 9 ∷ refers 8 ∷ [])) 26 1
     -- 11: no such rule, for both calls; change days of a non-sequenced rule; the whole table ahead of it
-    ∷ pose (table (plain ∷ [])) (on_rule 1) (told (Unjudged 11 0))
-    ∷ pose (table (plain ∷ [])) (on_changes 1 0) (stored (Unlisted 11 0) [])
-    ∷ pose (table (rule 1 1 one 0 ∷ [])) (on_changes 0 1) (stored (Unlisted 11 0) (0 ∷ []))
-    ∷ pose (table (plain ∷ refers 9 ∷ [])) (on_rule 7) (told (Unjudged 26 1))
-    ∷ pose (table (plain ∷ rule 6 0 one 0 ∷ [])) (on_changes 7 0) (stored (Unlisted 25 1) [])
+    ∷ pose (table (plain ∷ [])) (on_rule 1) (told (Refused 11 0))
+    ∷ pose (table (plain ∷ [])) (on_changes 1 0) (stored (Refused 11 0) [])
+    ∷ pose (table (rule 1 1 one 0 ∷ [])) (on_changes 0 1) (stored (Refused 11 0) (0 ∷ []))
+    ∷ pose (table (plain ∷ refers 9 ∷ [])) (on_rule 7) (told (Refused 26 1))
+    ∷ pose (table (plain ∷ rule 6 0 one 0 ∷ [])) (on_changes 7 0) (stored (Refused 25 1) [])
     -- 11 ahead of 12
-    ∷ pose (table (rule 1 1 one 0 ∷ [])) (on_changes 0 0) (stored (Unlisted 11 0) [])
+    ∷ pose (table (rule 1 1 one 0 ∷ [])) (on_changes 0 0) (stored (Refused 11 0) [])
     ∷ []
 
 pub rule-orders : Right (on_lone rule_orders)
@@ -217,12 +218,12 @@ rule-orders = by-reading (nodes lone) (of_nodes lone) lone_held rule_orders refl
 unfoldable pub rule_calls : List Pin
 rule_calls =
     -- the nodes come ahead of the rules: 10 there, 21 here; 1 there, 22 here
-    pin (in_node 7 6 (pair 61) little) [] (on_changes 0 0) (stored (Unlisted 10 0) [])
-    ∷ pin [] (put 9 (1 ∷ []) ten_rules) (on_rule 0) (told (Unjudged 1 0))
+    pin (in_node 7 6 (pair 61) little) [] (on_changes 0 0) (stored (Refused 10 0) [])
+    ∷ pin [] (put 9 (1 ∷ []) ten_rules) (on_rule 0) (told (Refused 1 0))
     -- 12: one place too few; exact room, and a place more, which is left as it was
-    ∷ pin little (table (plain ∷ [])) (on_changes 0 2) (stored (Unlisted 12 0) (0 ∷ 0 ∷ []))
-    ∷ pin little (table (plain ∷ [])) (on_changes 0 3) (stored (Stored 3) (0 ∷ 10 ∷ 60 ∷ []))
-    ∷ pin little (table (plain ∷ [])) (on_changes 0 4) (stored (Stored 3) (0 ∷ 10 ∷ 60 ∷ 0 ∷ []))
+    ∷ pin little (table (plain ∷ [])) (on_changes 0 2) (stored (Refused 12 0) (0 ∷ 0 ∷ []))
+    ∷ pin little (table (plain ∷ [])) (on_changes 0 3) (stored (Ok 3) (0 ∷ 10 ∷ 60 ∷ []))
+    ∷ pin little (table (plain ∷ [])) (on_changes 0 4) (stored (Ok 3) (0 ∷ 10 ∷ 60 ∷ 0 ∷ []))
     ∷ []
 
 pub rule-calls : Right rule_calls

@@ -1,4 +1,6 @@
 -- Pinned examples of request 2 of 02: verdicts in windows that the period's end or the month table cuts short, each before the request and now.
+use Rattle.meaning.specs.declared.Refusal.{Refusal}
+use Rattle.std.specs.Prelude.{Result, Ok}
 use mathlib.Core.Path.{◌≡◌, refl, ap, fun_ext, ◌∙◌}
 use mathlib.Core.List.{List, [], ◌∷◌, map}
 use Prim.Native.Nat.{ℕ}
@@ -58,14 +60,14 @@ spared =
 
 -- the verdict asked for now
 abbrev pub asks_now : Spared → Posed
-asks_now s = pose (table (s.rule ∷ [])) (on_rule 0) (told s.now)
+asks_now s = pose (table (s.rule ∷ [])) (on_rule 0) (told (Ok s.now))
 
 pub spared_now : Right (on_meter (map asks_now spared))
 unfolding opened written spared meter
 spared_now = by-reading (nodes meter) (of_nodes meter) meter_held (map asks_now spared) refl
 
 -- the verdict before, the image of the meter being read once
-unfoldable read_before : List ℕ → Verdict
+unfoldable read_before : List ℕ → Result Verdict Refusal
 read_before rules =
     verdict_after (and_then (read_rules rules) (need (ltb 0 (length (rules_of rules))) 11 0)) (judged_before (of_nodes meter) (referred_by (rules_of rules) 0) (rule_at (rules_of rules) 0))
 
@@ -73,6 +75,6 @@ before-read : (rules : List ℕ) → verdict_before (nodes meter) rules 0 ≡ re
 unfolding verdict_before read_verdict read_before
 before-read rules = rw (meter_held.nodes_read, meter_held.document)
 
-pub spared_before : map (λ (s : Spared). verdict_before (nodes meter) (table (s.rule ∷ [])) 0) spared ≡ map (λ (s : Spared). s.before) spared
+pub spared_before : map (λ (s : Spared). verdict_before (nodes meter) (table (s.rule ∷ [])) 0) spared ≡ map (λ (s : Spared). Ok s.before) spared
 unfolding opened written spared meter cardinality_before breaks_before offender_before judged_before read_before
-spared_before = after-laws (ap (λ (f : Spared → Verdict). map f spared) (fun_ext (λ s. before-read (table (s.rule ∷ [])))) ∙ refl)
+spared_before = after-laws (ap (λ (f : Spared → Result Verdict Refusal). map f spared) (fun_ext (λ s. before-read (table (s.rule ∷ [])))) ∙ refl)

@@ -1,4 +1,5 @@
 -- Pinned examples of non-sequenced rules: windows of days and of months, and the values of a window for each kind of rule.
+use Rattle.std.specs.Prelude.{Ok}
 use mathlib.Core.Path.{refl}
 use mathlib.Core.List.{List, [], ◌∷◌, map}
 use Prim.Native.Nat.{ℕ}
@@ -23,7 +24,7 @@ on_holders ps = map (pin_to (nodes holders)) ps
 
 -- the verdict on this rule
 abbrev judges : List ℕ → Verdict → Posed
-judges r found = pose (table (r ∷ [])) (on_rule 0) (told found)
+judges r found = pose (table (r ∷ [])) (on_rule 0) (told (Ok found))
 
 -- the mixer of record 3 has from .. to .. losses in each window of this period
 abbrev pub losses : ℕ → ℕ → ℕ → ℕ → List ℕ
@@ -86,7 +87,7 @@ abbrev plugs : ℕ → List ℕ
 plugs kind = rule kind 1 (1 ∷ 5 ∷ []) 6
 
 abbrev refers : List ℕ → Verdict → Posed
-refers r found = pose (table (r ∷ rule 1 0 (1 ∷ 2 ∷ []) 3 ∷ [])) (on_rule 0) (told found)
+refers r found = pose (table (r ∷ rule 1 0 (1 ∷ 2 ∷ []) 3 ∷ [])) (on_rule 0) (told (Ok found))
 
 unfoldable pub window_values : List Posed
 window_values =
@@ -132,7 +133,7 @@ window-values = by-reading (nodes holders) (of_nodes holders) holders-held windo
 
 -- losses 0 in record 5, 100 in 6, 160 in 12 and what is given in 8; the steps from one to the next are to lie in low .. high
 abbrev steps : Node → ℤ → ℤ → Verdict → Pin
-steps between8 low high found = pin (nodes (steps_by between8)) (table (between low high (rule 5 1 (1 ∷ 2 ∷ []) 4) ∷ [])) (on_rule 0) (told found)
+steps between8 low high found = pin (nodes (steps_by between8)) (table (between low high (rule 5 1 (1 ∷ 2 ∷ []) 4) ∷ [])) (on_rule 0) (told (Ok found))
 
 unfoldable pub window_steps : List Pin
 window_steps =

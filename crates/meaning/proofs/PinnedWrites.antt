@@ -7,8 +7,8 @@ use lib.IntN.{negsuc}
 use lib.Dec.{eqb}
 use lib.ListN.{length, take, replicate}
 use Rattle.meaning.specs.declared.Node.{Node}
-use Rattle.meaning.specs.declared.Reading.TheVariants.{Accepted, Refused}
-use Rattle.meaning.specs.declared.Output.TheVariants.{Written, Refused as Unwritten}
+use Rattle.meaning.specs.Reading.{Accepted, Refused}
+use Rattle.std.specs.Prelude.{Ok}
 use Rattle.meaning.specs.Block.{rule_form, blocks_of}
 use Rattle.meaning.specs.Nodes.{node_bytes, image_of}
 use Rattle.meaning.specs.Lent.{Lent, lent, nodes_lent, read_lent}
@@ -96,7 +96,7 @@ pub answer-examples :
     ∷ write_answer 0 (short 8 lone) []
     ∷ output_after Accepted 1024
     ∷ [])
-    ≡ (Written 512 ∷ Written 512 ∷ Unwritten 12 0 ∷ Unwritten 7 2 ∷ Unwritten 12 0 ∷ Unwritten 1 0 ∷ Written 1024 ∷ [])
+    ≡ (Ok 512 ∷ Ok 512 ∷ Refused 12 0 ∷ Refused 7 2 ∷ Refused 12 0 ∷ Refused 1 0 ∷ Ok 1024 ∷ [])
 unfolding opened written lone
 answer-examples = refl
 
@@ -112,6 +112,6 @@ unfolding opened written lone
 image-examples = refl
 
 -- the two answers in 01's numbers
-pub told-outputs : (tell_output (Written 512) ∷ tell_output (Unwritten 7 5) ∷ []) ≡ (tells 0 0 0 0 0 512 ∷ tells 2 7 5 0 0 0 ∷ [])
+pub told-outputs : (tell_output (Ok 512) ∷ tell_output (Refused 7 5) ∷ []) ≡ (tells 0 0 0 0 0 512 ∷ tells 2 7 5 0 0 0 ∷ [])
 unfolding opened
 told-outputs = refl

@@ -5,8 +5,7 @@ use mathlib.Core.List.{List, map, ◌++◌, map-append}
 use Prim.Native.Nat.{ℕ}
 use lib.ListN.{length, replicate}
 use lib.Dec.{ltb, leb}
-use Rattle.meaning.specs.declared.Reading.{Reading}
-use Rattle.meaning.specs.declared.Reading.TheVariants.{Accepted}
+use Rattle.meaning.specs.Reading.{Reading, Accepted}
 use Rattle.meaning.specs.Order.{need, and_then}
 use Rattle.meaning.specs.Document.{Doc}
 use Rattle.meaning.specs.Nodes.{doc_of, read_nodes}

@@ -6,7 +6,7 @@ use mathlib.Core.Bool.{true, cond, or-false}
 use Prim.Native.Nat.{ℕ, zero, suc, ◌+◌, ◌≤◌, ◌<◌}
 use native.Mathlib.Omega.{arith}
 use borrow.Author.Tests.{eq-eqb, ne_eqb}
-use Rattle.meaning.specs.declared.Reading.TheVariants.{Accepted}
+use Rattle.meaning.specs.Reading.{Accepted}
 use Rattle.meaning.specs.Document.{Doc, node, is_item}
 use Rattle.meaning.specs.Nodes.{parent_fits, items_up, depth, read_record}
 use Rattle.meaning.proofs.Rows.{ItemRow, VersionRow}

@@ -5,8 +5,7 @@ use mathlib.Core.List.{List}
 use Prim.Native.Nat.{ℕ, zero, suc}
 use native.Mathlib.Nat.{eq-or-lt_of_le}
 use native.Mathlib.Omega.{arith}
-use Rattle.meaning.specs.declared.Reading.{Reading}
-use Rattle.meaning.specs.declared.Reading.TheVariants.{Refused}
+use Rattle.meaning.specs.Reading.{Reading, Refused}
 use Rattle.meaning.specs.Order.{earliest, Test, in_order}
 use Rattle.meaning.proofs.Orders.{Lowest, Earliest, here, later, all-earliest}
 

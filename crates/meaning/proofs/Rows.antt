@@ -5,7 +5,7 @@ use Prim.Native.Nat.{ℕ, ◌≤◌, ◌<◌}
 use lib.IntN.{pos}
 use lib.Signed.{◌≤ℤ◌}
 use lib.ListN.{get_or}
-use Rattle.calendar.specs.declared.Month.TheVariants.{Number}
+use Rattle.std.specs.Prelude.{Some}
 use Rattle.calendar.specs.Gregorian.{month_on}
 use Rattle.meaning.specs.declared.Node.{Node}
 use Rattle.meaning.specs.declared.Rule.{Rule}
@@ -57,7 +57,7 @@ pub record Lengths (r : Rule) (most : ℕ) : Type 0 where
 pub data WindowRow (r : Rule) : Type 0 where
   whole_period : r.unit ≡ 0 → r.span ≡ 0 → r.slide ≡ 0 → WindowRow r
   in_days : r.unit ≡ 1 → r.windowed ≡ 1 → Lengths r 36525 → WindowRow r
-  in_months : r.unit ≡ 2 → r.windowed ≡ 1 → Lengths r 1200 → (k : ℕ) → month_on r.begin ≡ Number k → WindowRow r
+  in_months : r.unit ≡ 2 → r.windowed ≡ 1 → Lengths r 1200 → (k : ℕ) → month_on r.begin ≡ Some k → WindowRow r
 
 -- a row of the rule table
 pub record RuleRow (r : Rule) : Type 0 where

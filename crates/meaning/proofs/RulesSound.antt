@@ -3,7 +3,7 @@ use mathlib.Core.Path.{◌≡◌}
 use mathlib.Core.List.{List}
 use Prim.Native.Nat.{ℕ}
 use native.Mathlib.Omega.{arith}
-use Rattle.meaning.specs.declared.Reading.TheVariants.{Accepted}
+use Rattle.meaning.specs.Reading.{Accepted}
 use Rattle.meaning.specs.Block.{rule_form}
 use Rattle.meaning.specs.Rules.{spare_in, read_rule, refers_well, rule_at, rules_of, table_tests, read_rules}
 use Rattle.meaning.proofs.Orders.{order-passed, passed-order}

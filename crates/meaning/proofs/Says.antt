@@ -8,13 +8,12 @@ use lib.Ieee.Bits.{is_true}
 use lib.Signed.{le_z, ◌≤ℤ◌, le_z_yes}
 use lib.Dec.{leb, ltb, eqb}
 use borrow.Author.Tests.{ltb-true, ltb-false, leb-true, leb-false, lt-ltb, le-ltb, le-leb, lt-leb, eqb-true, eqb-false, eq-eqb, ne_eqb, not-true, not-false}
-use Rattle.meaning.specs.declared.Reading.{Reading}
-use Rattle.meaning.specs.declared.Reading.TheVariants.{Accepted}
+use Rattle.meaning.specs.Reading.{Reading, Accepted}
 use Rattle.meaning.specs.Walk.{any}
 use Rattle.meaning.specs.Bytes.{eq_z}
 use Rattle.meaning.specs.Order.{need, and_then}
 use Rattle.meaning.proofs.Basics.{went, and_l, and_r, both, neither_l, neither_r}
-use Rattle.meaning.proofs.Walks.{None, any_none, any_false}
+use Rattle.meaning.proofs.Walks.{NonePass, any_none, any_false}
 use Rattle.meaning.proofs.Orders.{need-accepted, needed, then_accepted, then_both}
 
 pub and_passes : (a b : Bool) → (a && b ≡ true) ↔ ((a ≡ true) × (b ≡ true))
@@ -71,7 +70,7 @@ eq_z-passes (negsuc a) (pos b) = (λ e. absurd (false≢true e), λ e. cc)
 pub le_z_passes : (a b : ℤ) → (le_z a b ≡ true) ↔ (a ≤ℤ b)
 le_z_passes a b = (λ e. le_z_yes (rw e tt), λ p. is_true (le_z a b) p.le)
 
-pub any-fails : (f : ℕ → Bool) (i n : ℕ) → (any f i n ≡ false) ↔ None f i n
+pub any-fails : (f : ℕ → Bool) (i n : ℕ) → (any f i n ≡ false) ↔ NonePass f i n
 any-fails f i n = (any_false f i n, any_none f i n)
 
 pub need-passes : (t : Bool) (k i : ℕ) → (need t k i ≡ Accepted) ↔ (t ≡ true)

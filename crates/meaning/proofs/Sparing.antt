@@ -11,13 +11,11 @@ use lib.Signed.{le_z}
 use borrow.Author.Tests.{ltb-true, lt-ltb}
 use Rattle.calendar.specs.Gregorian.{month_day, month_start}
 use Rattle.calendar.proofs.Months.{month_ascends, start_in, start_past}
-use Rattle.meaning.specs.declared.Found.{Found}
-use Rattle.meaning.specs.declared.Found.TheVariants.{Nothing}
-use Rattle.meaning.specs.declared.Rule.{Rule}
-use Rattle.meaning.specs.declared.Reading.{Reading}
-use Rattle.meaning.specs.declared.Reading.TheVariants.{Accepted, Refused}
+use Rattle.std.specs.Prelude.{None, Err, Ok}
+use Rattle.meaning.specs.Reading.{Reading, Accepted}
 use Rattle.meaning.specs.declared.Verdict.TheVariants.{Holds}
-use Rattle.meaning.specs.Walk.{count}
+use Rattle.meaning.specs.declared.Rule.{Rule}
+use Rattle.meaning.specs.Walk.{count, Found}
 use Rattle.meaning.specs.Document.{Doc, number_of}
 use Rattle.meaning.specs.Nodes.{doc_of}
 use Rattle.meaning.specs.Rules.{by_kind, is_sequenced, rule_at, rules_of}
@@ -126,7 +124,7 @@ module _ (doc : Doc) (q r : Rule) where
   unfolding offender_in offender_before offends_in
   offender-same w h = first-same _ _ 0 doc.size (λ v a b. breaks-same doc (meets doc w) w q r v r.kind h)
 
-  offender-less : (w : Window) → offender_before doc q r w ≡ Nothing → offender_in doc q r w ≡ Nothing
+  offender-less : (w : Window) → offender_before doc q r w ≡ None → offender_in doc q r w ≡ None
   unfolding offender_in offender_before offends_in
   offender-less w e = first-none _ 0 doc.size (λ v a b. breaks-less doc (meets doc w) w q r v r.kind (first-nothing _ 0 doc.size e v a b))
 
@@ -155,11 +153,11 @@ module _ (nodes rules : List ℕ) (k : ℕ) where
   unfolding verdict verdict_before
   verdict-same h = ap (verdict_after (read_verdict nodes rules k)) (judged-same (doc_of nodes) (referred_by (rules_of rules) k) (rule_at (rules_of rules) k) h)
 
-  pub verdict-holds : (n : ℕ) → verdict_before nodes rules k ≡ Holds n → verdict nodes rules k ≡ Holds n
+  pub verdict-holds : (n : ℕ) → verdict_before nodes rules k ≡ Ok (Holds n) → verdict nodes rules k ≡ Ok (Holds n)
   unfolding verdict verdict_before
   verdict-holds n = go (read_verdict nodes rules k)
     where
-      go : (x : Reading) → verdict_after x (judged_before (doc_of nodes) (referred_by (rules_of rules) k) (rule_at (rules_of rules) k)) ≡ Holds n
-          → verdict_after x (judged (doc_of nodes) (referred_by (rules_of rules) k) (rule_at (rules_of rules) k)) ≡ Holds n
-      go Accepted e = holds-still (doc_of nodes) (referred_by (rules_of rules) k) (rule_at (rules_of rules) k) n e
-      go (Refused a b) e = e
+      go : (x : Reading) → verdict_after x (judged_before (doc_of nodes) (referred_by (rules_of rules) k) (rule_at (rules_of rules) k)) ≡ Ok (Holds n)
+          → verdict_after x (judged (doc_of nodes) (referred_by (rules_of rules) k) (rule_at (rules_of rules) k)) ≡ Ok (Holds n)
+      go Accepted e = ap Ok (holds-still (doc_of nodes) (referred_by (rules_of rules) k) (rule_at (rules_of rules) k) n (cc))
+      go (Err why) e = e

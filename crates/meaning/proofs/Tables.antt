@@ -4,8 +4,7 @@ use mathlib.Core.Logic.{◌↔◌, ◌⊎◌, inl, inr, ⊎_elim, ⊎_map}
 use mathlib.Core.Bool.{Bool, true, false, cond, false≢true}
 use Prim.Native.Nat.{ℕ, zero, suc, ◌≤◌}
 use native.Mathlib.Omega.{arith}
-use Rattle.calendar.specs.declared.Month.{Month}
-use Rattle.calendar.specs.declared.Month.TheVariants.{Number, Absent}
+use Rattle.std.specs.Prelude.{Option, Some, None}
 use Rattle.calendar.specs.Gregorian.{month_on}
 use Rattle.meaning.specs.declared.Node.{Node}
 use Rattle.meaning.specs.declared.Rule.{Rule}
@@ -76,9 +75,9 @@ bounds-row r = (
 )
 
 -- a month start is that of some month
-is-month_lem : (m : Month) → is_month m ≡ true → (k : ℕ) × (m ≡ Number k)
-is-month_lem (Number k) e = (k, refl)
-is-month_lem Absent e = absurd (false≢true e)
+is-month_lem : (m : Option ℕ) → is_month m ≡ true → (k : ℕ) × (m ≡ Some k)
+is-month_lem (Some k) e = (k, refl)
+is-month_lem None e = absurd (false≢true e)
 
 window_row : (r : Rule) → (window_fits r r.unit ≡ true) ↔ WindowRow r
 unfolding window_fits

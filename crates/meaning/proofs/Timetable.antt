@@ -5,7 +5,7 @@ use mathlib.Core.List.{List, [], ◌∷◌}
 use Prim.Native.Nat.{ℕ, zero, suc, ◌+◌, ◌*◌, ◌≤◌, ◌<◌}
 use native.Mathlib.Omega.{arith}
 use borrow.Author.Tests.{le-leb, lt-leb, lt-ltb, le-ltb}
-use Rattle.calendar.specs.declared.Month.TheVariants.{Number}
+use Rattle.std.specs.Prelude.{Some}
 use Rattle.calendar.specs.Gregorian.{month_day, month_start}
 use Rattle.calendar.proofs.Months.{start_past, start_ascends, month_on-found, month_on-start}
 use Rattle.meaning.specs.declared.Rule.{Rule}
@@ -147,7 +147,7 @@ module _ (r : Rule) (j : ℕ) (w : Window) where
   unfolding windows_by
   months_listed h c k m e =
       let place = k + j * r.slide in
-      let listed : Nth (month_windows r (Number k)) j w ↔ ((month_window r place ≡ w) × (w.from < r.end)) = nth_from (month_window r) r (entry_rises h c) _ k j w (omega arith) in
+      let listed : Nth (month_windows r (Some k)) j w ↔ ((month_window r place ≡ w) × (w.from < r.end)) = nth_from (month_window r) r (entry_rises h c) _ k j w (omega arith) in
       let days = clipped (month_start place) (month_start (place + r.span)) r.end (month_day (place + r.span)) w in
       rw (month_on-start r.begin k m e) (
         λ n. let t = listed.0 n in

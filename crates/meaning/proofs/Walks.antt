@@ -8,7 +8,7 @@ use native.Mathlib.Nat.{eq-or-lt_of_le}
 use native.Mathlib.Omega.{arith}
 use lib.ListN.{length, get_or, take}
 use lib.Seq.{ext_get_or, get_or-take, length-take-le}
-use Rattle.meaning.specs.declared.Found.TheVariants.{At, Nothing}
+use Rattle.std.specs.Prelude.{Some, None}
 use Rattle.meaning.specs.Walk.{any, count, first, pick, listed}
 use Rattle.meaning.proofs.Basics.{went, clear}
 
@@ -19,22 +19,22 @@ pub record Passes (f : ℕ → Bool) (i n k : ℕ) : Type 0 where
   pub passes : f k ≡ true
 
 -- none of them does
-abbrev pub None : (ℕ → Bool) → ℕ → ℕ → Type 0
-None f i n = (k : ℕ) → i ≤ k → k < i + n → f k ≡ false
+abbrev pub NonePass : (ℕ → Bool) → ℕ → ℕ → Type 0
+NonePass f i n = (k : ℕ) → i ≤ k → k < i + n → f k ≡ false
 
 module _ (f : ℕ → Bool) where
-  none_more : (i n : ℕ) → f i ≡ false → None f (suc i) n → None f i (suc n)
+  none_more : (i n : ℕ) → f i ≡ false → NonePass f (suc i) n → NonePass f i (suc n)
   none_more i n e r k h l = ⊎_elim (λ p. ap f (sym p) ∙ e) (λ lt. r k lt (omega arith)) (eq-or-lt_of_le h)
 
-  none-less : (i n : ℕ) → None f i (suc n) → None f (suc i) n
+  none-less : (i n : ℕ) → NonePass f i (suc n) → NonePass f (suc i) n
   none-less i n r k h l = r k (omega arith) (omega arith)
 
-  pub any_none : (i n : ℕ) → None f i n → any f i n ≡ false
+  pub any_none : (i n : ℕ) → NonePass f i n → any f i n ≡ false
   unfolding any
   any_none i zero r = refl
   any_none i (suc n) r = rw (r i (omega arith) (omega arith)) (any_none (suc i) n (none-less i n r))
 
-  pub any_false : (i n : ℕ) → any f i n ≡ false → None f i n
+  pub any_false : (i n : ℕ) → any f i n ≡ false → NonePass f i n
   unfolding any
   any_false i zero e = λ k h l. absurd (omega arith)
   any_false i (suc n) e =
@@ -55,27 +55,27 @@ module _ (f : ℕ → Bool) where
       (λ z. let r = any-true (suc i) n (rw z at e) in (r.0, record { from = omega arith; below = omega arith; passes = r.1.passes }))
       (went (f i))
 
-  pub first-none : (i n : ℕ) → None f i n → first f i n ≡ Nothing
+  pub first-none : (i n : ℕ) → NonePass f i n → first f i n ≡ None
   unfolding first
   first-none i zero r = refl
   first-none i (suc n) r = rw (r i (omega arith) (omega arith)) (first-none (suc i) n (none-less i n r))
 
-  pub first-nothing : (i n : ℕ) → first f i n ≡ Nothing → None f i n
+  pub first-nothing : (i n : ℕ) → first f i n ≡ None → NonePass f i n
   unfolding first
   first-nothing i zero e = λ k h l. absurd (omega arith)
   first-nothing i (suc n) e =
       ⊎_elim
-      (λ y. let p : At i ≡ Nothing = rw y at e in let z : ◌≡◌ {A = ℕ} 0 1 = cc in absurd (omega arith))
+      (λ y. let p : Some i ≡ None = rw y at e in let z : ◌≡◌ {A = ℕ} 0 1 = cc in absurd (omega arith))
       (λ z. none_more i n z (first-nothing (suc i) n (rw z at e)))
       (went (f i))
 
   -- the lowest that passes, where none below it does
-  pub first-at : (k i n : ℕ) → i ≤ k → k < i + n → f k ≡ true → ((j : ℕ) → i ≤ j → j < k → f j ≡ false) → first f i n ≡ At k
+  pub first-at : (k i n : ℕ) → i ≤ k → k < i + n → f k ≡ true → ((j : ℕ) → i ≤ j → j < k → f j ≡ false) → first f i n ≡ Some k
   unfolding first
   first-at k i zero h l y r = absurd (omega arith)
   first-at k i (suc n) h l y r =
       ⊎_elim
-      (λ p. let z : f i ≡ true = ap f p ∙ y in rw z (ap At p))
+      (λ p. let z : f i ≡ true = ap f p ∙ y in rw z (ap Some p))
       (λ lt. let z : f i ≡ false = r i (omega arith) lt in rw z (first-at k (suc i) n lt (omega arith) y (λ j a b. r j (omega arith) b)))
       (eq-or-lt_of_le h)
 
@@ -86,13 +86,13 @@ module _ (f : ℕ → Bool) where
     pub passes : f k ≡ true
     pub before : (j : ℕ) → i ≤ j → j < k → f j ≡ false
 
-  pub first_found : (i n k : ℕ) → first f i n ≡ At k → Lowest i n k
+  pub first_found : (i n k : ℕ) → first f i n ≡ Some k → Lowest i n k
   unfolding first
   first_found i zero k e = let z : ◌≡◌ {A = ℕ} 0 1 = cc in absurd (omega arith)
   first_found i (suc n) k e =
       ⊎_elim
       (λ y.
-      let p : At i ≡ At k = rw y at e in
+      let p : Some i ≡ Some k = rw y at e in
       let q : i ≡ k = cc in
       record { from = omega arith; below = omega arith; passes = ap f (sym q) ∙ y; before = λ j a b. absurd (omega arith) })
       (λ z.

@@ -7,8 +7,8 @@ use native.Mathlib.Omega.{arith}
 use native.Mathlib.Nat.{add-zero}
 use lib.ListN.{length}
 use Rattle.meaning.specs.declared.Rule.{Rule}
-use Rattle.meaning.specs.declared.Found.{Found}
-use Rattle.meaning.specs.declared.Found.TheVariants.{At, Nothing}
+use Rattle.meaning.specs.Walk.{Found}
+use Rattle.std.specs.Prelude.{Some, None}
 use Rattle.meaning.specs.declared.Verdict.TheVariants.{Holds, Fails}
 use Rattle.meaning.specs.Document.{Doc}
 use Rattle.meaning.specs.Window.{Window, meets, offends_in, offender_in, windows, judge, in_windows}
@@ -17,11 +17,11 @@ use Rattle.meaning.proofs.Walks.{first_found, first-nothing, first-none}
 
 -- nothing is found in any of the windows
 abbrev pub Clear : (Window → Found) → List Window → Type 0
-Clear f ws = (j : ℕ) (w : Window) → Nth ws j w → f w ≡ Nothing
+Clear f ws = (j : ℕ) (w : Window) → Nth ws j w → f w ≡ None
 
 -- nothing is found in the first n of them
 abbrev pub ClearBefore : (Window → Found) → List Window → ℕ → Type 0
-ClearBefore f ws n = (j : ℕ) (w : Window) → j < n → Nth ws j w → f w ≡ Nothing
+ClearBefore f ws n = (j : ℕ) (w : Window) → j < n → Nth ws j w → f w ≡ None
 
 -- the first window in which something is found, and how many came before it
 pub record FirstWindow (f : Window → Found) (ws : List Window) (k d v n : ℕ) : Type 0 where
@@ -29,26 +29,26 @@ pub record FirstWindow (f : Window → Found) (ws : List Window) (k d v n : ℕ)
   pub earlier : ℕ
   pub placed : Nth ws earlier window
   pub none : ClearBefore f ws earlier
-  pub found_there : f window ≡ At v
+  pub found_there : f window ≡ Some v
   pub start : window.from ≡ d
   pub counted : n ≡ suc (earlier + k)
 
 module _ (f : Window → Found) where
   -- one window, with an offender or without
-  on-hit : (w : Window) (ws : List Window) (k v : ℕ) → f w ≡ At v → judge f (w ∷ ws) k ≡ Fails w.from v (suc k)
+  on-hit : (w : Window) (ws : List Window) (k v : ℕ) → f w ≡ Some v → judge f (w ∷ ws) k ≡ Fails w.from v (suc k)
   unfolding judge
   on-hit w ws k v e = rw e
 
-  on-miss : (w : Window) (ws : List Window) (k : ℕ) → f w ≡ Nothing → judge f (w ∷ ws) k ≡ judge f ws (suc k)
+  on-miss : (w : Window) (ws : List Window) (k : ℕ) → f w ≡ None → judge f (w ∷ ws) k ≡ judge f ws (suc k)
   unfolding judge
   on-miss w ws k e = rw e
 
   -- nothing is found in one window more
-  clear-more : (x : Window) (ws : List Window) → f x ≡ Nothing → Clear f ws → Clear f (x ∷ ws)
+  clear-more : (x : Window) (ws : List Window) → f x ≡ None → Clear f ws → Clear f (x ∷ ws)
   clear-more x ws e c zero w h = ap f (sym h) ∙ e
   clear-more x ws e c (suc j) w h = c j w h
 
-  before_more : (x : Window) (ws : List Window) (n : ℕ) → f x ≡ Nothing → ClearBefore f ws n → ClearBefore f (x ∷ ws) (suc n)
+  before_more : (x : Window) (ws : List Window) (n : ℕ) → f x ≡ None → ClearBefore f ws n → ClearBefore f (x ∷ ws) (suc n)
   before_more x ws n e c zero w l h = ap f (sym h) ∙ e
   before_more x ws n e c (suc j) w l h = c j w (omega arith) h
 
@@ -58,8 +58,8 @@ module _ (f : Window → Found) where
   judge-holds (w ∷ ws) k n e = go (f w) refl (judge-holds ws (suc k) n)
     where
       go : (x : Found) → f w ≡ x → (judge f ws (suc k) ≡ Holds n → Clear f ws × (n ≡ length ws + suc k)) → Clear f (w ∷ ws) × (n ≡ suc (length ws) + k)
-      go (At v) x ih = let p : Fails w.from v (suc k) ≡ Holds n = sym (on-hit w ws k v x) ∙ e in let z : ◌≡◌ {A = ℕ} 0 1 = cc in absurd (omega arith)
-      go Nothing x ih = let c = ih (sym (on-miss w ws k x) ∙ e) in (clear-more w ws x c.0, omega (arith, c.1))
+      go (Some v) x ih = let p : Fails w.from v (suc k) ≡ Holds n = sym (on-hit w ws k v x) ∙ e in let z : ◌≡◌ {A = ℕ} 0 1 = cc in absurd (omega arith)
+      go None x ih = let c = ih (sym (on-miss w ws k x) ∙ e) in (clear-more w ws x c.0, omega (arith, c.1))
 
   pub clear-holds : (ws : List Window) (k : ℕ) → Clear f ws → judge f ws k ≡ Holds (length ws + k)
   unfolding judge
@@ -72,12 +72,12 @@ module _ (f : Window → Found) where
   judge-fails (w ∷ ws) k d v n e = go (f w) refl (judge-fails ws (suc k) d v n)
     where
       go : (x : Found) → f w ≡ x → (judge f ws (suc k) ≡ Fails d v n → FirstWindow f ws (suc k) d v n) → FirstWindow f (w ∷ ws) k d v n
-      go (At u) x ih =
+      go (Some u) x ih =
           let p : Fails w.from u (suc k) ≡ Fails d v n = sym (on-hit w ws k u x) ∙ e in
           let q : u ≡ v = cc in
           let m : suc k ≡ n = cc in
-          record { window = w; earlier = 0; placed = refl; none = λ j y l h. absurd (omega arith); found_there = x ∙ ap At q; start = cc; counted = omega arith }
-      go Nothing x ih =
+          record { window = w; earlier = 0; placed = refl; none = λ j y l h. absurd (omega arith); found_there = x ∙ ap Some q; start = cc; counted = omega arith }
+      go None x ih =
           let c = ih (sym (on-miss w ws k x) ∙ e) in
           record {
             window = c.window;
@@ -110,11 +110,11 @@ pub record FirstFaultIn (doc : Doc) (q r : Rule) (d v n : ℕ) : Type 0 where
   pub first_window : (j : ℕ) (w : Window) → j < earlier → Nth (windows r) j w → NoFaultIn doc q r w
 
 module _ (doc : Doc) (q r : Rule) where
-  none_in : (w : Window) → offender_in doc q r w ≡ Nothing → NoFaultIn doc q r w
+  none_in : (w : Window) → offender_in doc q r w ≡ None → NoFaultIn doc q r w
   unfolding offender_in
   none_in w e v h = first-nothing (offends_in doc (meets doc w) w q r) 0 doc.size e v (omega arith) (omega arith)
 
-  pub none_found : (w : Window) → NoFaultIn doc q r w → offender_in doc q r w ≡ Nothing
+  pub none_found : (w : Window) → NoFaultIn doc q r w → offender_in doc q r w ≡ None
   unfolding offender_in
   none_found w h = first-none (offends_in doc (meets doc w) w q r) 0 doc.size (λ v a b. h v (omega arith))
 

@@ -1,14 +1,10 @@
 -- What the calls answer and what a lent list or image then holds (MEANING 13, 14, 17), refusals in their order.
-use Rattle.std.specs.Prelude.{ℕ, ◌&&◌, cond, List, ◌++◌, leb, ltb, length, drop}
+use Rattle.std.specs.Prelude.{ℕ, ◌&&◌, cond, List, ◌++◌, leb, ltb, length, drop, Result, Ok, Err}
 use Rattle.meaning.specs.declared.Rule.{Rule}
-use Rattle.meaning.specs.declared.Reading.{Reading}
-use Rattle.meaning.specs.declared.Reading.TheVariants.{Accepted, Refused}
+use Rattle.meaning.specs.Reading.{Reading, Accepted, Refused}
+use Rattle.meaning.specs.declared.Refusal.{Refusal}
 use Rattle.meaning.specs.declared.Verdict.{Verdict}
-use Rattle.meaning.specs.declared.Verdict.TheVariants.{Holds, Fails, Refused as Unjudged}
-use Rattle.meaning.specs.declared.Listed.{Listed}
-use Rattle.meaning.specs.declared.Listed.TheVariants.{Stored, Refused as Unlisted}
-use Rattle.meaning.specs.declared.Output.{Output}
-use Rattle.meaning.specs.declared.Output.TheVariants.{Written, Refused as Unwritten}
+use Rattle.meaning.specs.declared.Verdict.TheVariants.{Holds, Fails}
 use Rattle.meaning.specs.Order.{need, and_then}
 use Rattle.meaning.specs.Document.{Doc}
 use Rattle.meaning.specs.Nodes.{doc_of, read_nodes, image_of}
@@ -26,33 +22,33 @@ unfoldable pub judged : Doc → Rule → Rule → Verdict
 judged doc q r = cond (is_sequenced r) (on_days doc q r) (in_windows doc q r)
 
 -- a refusal of the reading, else what was found
-abbrev pub verdict_after : Reading → Verdict → Verdict
-verdict_after Accepted found = found
-verdict_after (Refused number place) found = Unjudged number place
+abbrev pub verdict_after : Reading → Verdict → Result Verdict Refusal
+verdict_after Accepted found = Ok found
+verdict_after (Err why) found = Err why
 
 -- the call `verdict`: nodes, rules, then 11 where there is no such rule
 unfoldable pub read_verdict : List ℕ → List ℕ → ℕ → Reading
 read_verdict nodes rules k = and_then (read_nodes nodes) (and_then (read_rules rules) (need (ltb k (length (rules_of rules))) 11 0))
 
-unfoldable pub verdict : List ℕ → List ℕ → ℕ → Verdict
+unfoldable pub verdict : List ℕ → List ℕ → ℕ → Result Verdict Refusal
 verdict nodes rules k =
     verdict_after (read_verdict nodes rules k) (judged (doc_of nodes) (referred_by (rules_of rules) k) (rule_at (rules_of rules) k))
 
 -- a list goes to a lent one with enough room, else 12
-unfoldable pub storing : Reading → List ℕ → List ℕ → Listed
-storing Accepted list lent = cond (leb (length list) (length lent)) (Stored (length list)) (Unlisted 12 0)
-storing (Refused number place) list lent = Unlisted number place
+unfoldable pub storing : Reading → List ℕ → List ℕ → Result ℕ Refusal
+storing Accepted list lent = cond (leb (length list) (length lent)) (Ok (length list)) (Refused 12 0)
+storing (Err why) list lent = Err why
 
 -- what the lent list holds afterwards: the numbers stored and the rest as it was, or all as it was
-abbrev pub lent_after : Listed → List ℕ → List ℕ → List ℕ
-lent_after (Stored n) list lent = list ++ drop n lent
-lent_after (Unlisted number place) list lent = lent
+abbrev pub lent_after : Result ℕ Refusal → List ℕ → List ℕ → List ℕ
+lent_after (Ok n) list lent = list ++ drop n lent
+lent_after (Err why) list lent = lent
 
 -- the call `slice`: nodes, then 11 for a day past the last, then 12
 unfoldable pub read_slice : List ℕ → ℕ → Reading
 read_slice nodes d = and_then (read_nodes nodes) (need (leb d 36524) 11 0)
 
-unfoldable pub slice_answer : List ℕ → ℕ → List ℕ → Listed
+unfoldable pub slice_answer : List ℕ → ℕ → List ℕ → Result ℕ Refusal
 slice_answer nodes d lent = storing (read_slice nodes d) (slice (doc_of nodes) d) lent
 
 unfoldable pub slice_lent : List ℕ → ℕ → List ℕ → List ℕ
@@ -66,14 +62,14 @@ read_changes nodes rules k =
 unfoldable pub changes_of : List ℕ → List ℕ → ℕ → List ℕ
 changes_of nodes rules k = change_days (doc_of nodes) (referred_by (rules_of rules) k) (rule_at (rules_of rules) k)
 
-unfoldable pub changes_answer : List ℕ → List ℕ → ℕ → List ℕ → Listed
+unfoldable pub changes_answer : List ℕ → List ℕ → ℕ → List ℕ → Result ℕ Refusal
 changes_answer nodes rules k lent = storing (read_changes nodes rules k) (changes_of nodes rules k) lent
 
 unfoldable pub changes_lent : List ℕ → List ℕ → ℕ → List ℕ → List ℕ
 changes_lent nodes rules k lent = lent_after (changes_answer nodes rules k lent) (changes_of nodes rules k) lent
 
 -- the call `plain::verdict`: refused as the reading for change days is, else the verdict over every day
-unfoldable pub sequenced_verdict : List ℕ → List ℕ → ℕ → Verdict
+unfoldable pub sequenced_verdict : List ℕ → List ℕ → ℕ → Result Verdict Refusal
 sequenced_verdict nodes rules k =
     verdict_after (read_changes nodes rules k) (on_days (doc_of nodes) (referred_by (rules_of rules) k) (rule_at (rules_of rules) k))
 
@@ -82,17 +78,17 @@ unfoldable pub read_write : ℕ → Lent → List ℕ → Reading
 read_write n c image = and_then (read_lent n c) (need (leb (length (image_of (nodes_lent n c))) (length image)) 12 0)
 
 -- a refusal of the reading, else how many bytes were written
-abbrev pub output_after : Reading → ℕ → Output
-output_after Accepted bytes = Written bytes
-output_after (Refused number place) bytes = Unwritten number place
+abbrev pub output_after : Reading → ℕ → Result ℕ Refusal
+output_after Accepted bytes = Ok bytes
+output_after (Err why) bytes = Err why
 
-unfoldable pub write_answer : ℕ → Lent → List ℕ → Output
+unfoldable pub write_answer : ℕ → Lent → List ℕ → Result ℕ Refusal
 write_answer n c image = output_after (read_write n c image) (length (image_of (nodes_lent n c)))
 
 -- what the lent image holds afterwards: the image of the records and the rest as it was, or all as it was
-abbrev pub image_after : Output → List ℕ → List ℕ → List ℕ
-image_after (Written bytes) written image = written ++ drop bytes image
-image_after (Unwritten number place) written image = image
+abbrev pub image_after : Result ℕ Refusal → List ℕ → List ℕ → List ℕ
+image_after (Ok bytes) written image = written ++ drop bytes image
+image_after (Err why) written image = image
 
 unfoldable pub write_image : ℕ → Lent → List ℕ → List ℕ
 write_image n c image = image_after (write_answer n c image) (image_of (nodes_lent n c)) image
@@ -106,19 +102,19 @@ pub record Told : Type 0 where
   pub offender : ℕ
   pub count : ℕ
 
-unfoldable pub tell_verdict : Verdict → Told
-tell_verdict (Holds n) = record { outcome = 0; number = 0; place = 0; day = 0; offender = 0; count = n }
-tell_verdict (Fails d v n) = record { outcome = 1; number = 0; place = 0; day = d; offender = v; count = n }
-tell_verdict (Unjudged x i) = record { outcome = 2; number = x; place = i; day = 0; offender = 0; count = 0 }
+unfoldable pub tell_verdict : Result Verdict Refusal → Told
+tell_verdict (Ok (Holds n)) = record { outcome = 0; number = 0; place = 0; day = 0; offender = 0; count = n }
+tell_verdict (Ok (Fails d v n)) = record { outcome = 1; number = 0; place = 0; day = d; offender = v; count = n }
+tell_verdict (Err why) = record { outcome = 2; number = why.number; place = why.place; day = 0; offender = 0; count = 0 }
 
-unfoldable pub tell_listed : Listed → Told
-tell_listed (Stored n) = record { outcome = 0; number = 0; place = 0; day = 0; offender = 0; count = n }
-tell_listed (Unlisted x i) = record { outcome = 2; number = x; place = i; day = 0; offender = 0; count = 0 }
+unfoldable pub tell_listed : Result ℕ Refusal → Told
+tell_listed (Ok n) = record { outcome = 0; number = 0; place = 0; day = 0; offender = 0; count = n }
+tell_listed (Err why) = record { outcome = 2; number = why.number; place = why.place; day = 0; offender = 0; count = 0 }
 
 unfoldable pub tell_reading : Reading → Told
 tell_reading Accepted = record { outcome = 0; number = 0; place = 0; day = 0; offender = 0; count = 0 }
-tell_reading (Refused x i) = record { outcome = 2; number = x; place = i; day = 0; offender = 0; count = 0 }
+tell_reading (Err why) = record { outcome = 2; number = why.number; place = why.place; day = 0; offender = 0; count = 0 }
 
-unfoldable pub tell_output : Output → Told
-tell_output (Written n) = record { outcome = 0; number = 0; place = 0; day = 0; offender = 0; count = n }
-tell_output (Unwritten x i) = record { outcome = 2; number = x; place = i; day = 0; offender = 0; count = 0 }
+unfoldable pub tell_output : Result ℕ Refusal → Told
+tell_output (Ok n) = record { outcome = 0; number = 0; place = 0; day = 0; offender = 0; count = n }
+tell_output (Err why) = record { outcome = 2; number = why.number; place = why.place; day = 0; offender = 0; count = 0 }

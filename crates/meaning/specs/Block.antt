@@ -1,7 +1,7 @@
 -- Blocks of 512 bytes and the image they make up (MEANING 2): check, header, zeros, refusals 1 to 4 or 21 to 24, and the image that records are written to (MEANING 17).
 use Rattle.std.specs.Prelude.{ℕ, suc, ◌+◌, ◌-◌, ◌*◌, ◌/◌, ◌%◌, ◌^◌, Bool, true, ◌&&◌, cond, List, [], ◌∷◌, ◌++◌, eqb, leb, length, take, drop, replicate}
 use Rattle.meaning.specs.declared.Form.{Form}
-use Rattle.meaning.specs.declared.Reading.{Reading}
+use Rattle.meaning.specs.Reading.{Reading}
 use Rattle.meaning.specs.Walk.{listed}
 use Rattle.meaning.specs.Bytes.{byte, two, four, pair, quad}
 use Rattle.meaning.specs.Order.{need, and_then, Test}

@@ -1,11 +1,10 @@
 -- Presence on a day, the slice, the offenders of a day, change days and the verdict of a sequenced rule (MEANING 7, 8, 9, 12).
 use Rattle.std.specs.Prelude.{ℕ, zero, suc, ◌-◌, Bool, false, ◌&&◌, ◌||◌, not, List, pos, leb, ltb, eqb, length}
 use Rattle.meaning.specs.Rules.{by_kind}
-use Rattle.meaning.specs.declared.Found.{Found}
+use Rattle.meaning.specs.declared.Verdict.TheVariants.{Holds, Fails}
 use Rattle.meaning.specs.declared.Rule.{Rule}
 use Rattle.meaning.specs.declared.Verdict.{Verdict}
-use Rattle.meaning.specs.declared.Verdict.TheVariants.{Holds, Fails}
-use Rattle.meaning.specs.Walk.{any, count, pick, first, on_found, found, place}
+use Rattle.meaning.specs.Walk.{any, count, pick, first, on_found, found, place, Found}
 use Rattle.meaning.specs.Document.{Doc, is_version, above}
 use Rattle.meaning.specs.Nodes.{deepest}
 use Rattle.meaning.specs.Select.{field_of, reads, is_nil, is_number, within, present, gives, has_nil, has}

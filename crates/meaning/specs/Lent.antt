@@ -1,7 +1,7 @@
 -- Records in lent columns (MEANING 17): a count and a list for each field, and what comes of them without an image.
 use Rattle.std.specs.Prelude.{ℕ, Bool, ◌&&◌, List, ℤ, pos, leb, length, get_or}
 use Rattle.meaning.specs.declared.Node.{Node}
-use Rattle.meaning.specs.declared.Reading.{Reading}
+use Rattle.meaning.specs.Reading.{Reading}
 use Rattle.meaning.specs.Walk.{listed}
 use Rattle.meaning.specs.Order.{need, and_then}
 use Rattle.meaning.specs.Block.{limit}

@@ -1,5 +1,6 @@
 pub mod Walk
 pub mod Bytes
+pub mod Reading
 pub mod Order
 pub mod Block
 pub mod Document

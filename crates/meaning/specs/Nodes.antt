@@ -2,7 +2,7 @@
 use Rattle.std.specs.Prelude.{ℕ, zero, suc, ◌+◌, Bool, ◌&&◌, ◌||◌, not, cond, List, [], ◌∷◌, ◌++◌, map, pos, leb, ltb, eqb}
 use Rattle.std.specs.Int.Signed.{le_z}
 use Rattle.meaning.specs.declared.Node.{Node}
-use Rattle.meaning.specs.declared.Reading.{Reading}
+use Rattle.meaning.specs.Reading.{Reading}
 use Rattle.meaning.specs.Walk.{any, listed}
 use Rattle.meaning.specs.Bytes.{byte, two, four, signed, eq_z, pair, quad, bits}
 use Rattle.meaning.specs.Order.{need, and_then, Test, in_order}

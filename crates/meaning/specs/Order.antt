@@ -1,7 +1,6 @@
 -- The order of refusals (MEANING 13): tests one after the other, each at its lowest place.
-use Rattle.std.specs.Prelude.{ℕ, zero, suc, Bool, true, false, List, [], ◌∷◌}
-use Rattle.meaning.specs.declared.Reading.{Reading}
-use Rattle.meaning.specs.declared.Reading.TheVariants.{Accepted, Refused}
+use Rattle.std.specs.Prelude.{ℕ, zero, suc, Bool, true, false, List, [], ◌∷◌, Err}
+use Rattle.meaning.specs.Reading.{Reading, Accepted, Refused}
 
 -- accepted where the test passes, else refused with this number and place
 abbrev pub need : Bool → ℕ → ℕ → Reading
@@ -11,7 +10,7 @@ need false number place = Refused number place
 -- the first refusal of the two
 abbrev pub and_then : Reading → Reading → Reading
 and_then Accepted later = later
-and_then (Refused number place) later = Refused number place
+and_then (Err why) later = Err why
 
 -- the first refusal at the places i, i + 1, .., n of them
 unfoldable pub earliest : (ℕ → Reading) → ℕ → ℕ → Reading

@@ -1,11 +1,9 @@
 -- Rule images (MEANING 5): the record's table, the tests 24 to 26, and what comes of reading an image.
-use Rattle.std.specs.Prelude.{ℕ, zero, suc, ◌+◌, ◌*◌, Bool, true, false, ◌&&◌, ◌||◌, not, cond, List, [], ◌∷◌, pos, leb, ltb, eqb, length, get_or}
+use Rattle.std.specs.Prelude.{ℕ, zero, suc, ◌+◌, ◌*◌, Bool, true, false, ◌&&◌, ◌||◌, not, cond, List, [], ◌∷◌, pos, leb, ltb, eqb, length, get_or, Option, Some, None}
 use Rattle.std.specs.Int.Signed.{le_z}
-use Rattle.calendar.specs.declared.Month.{Month}
-use Rattle.calendar.specs.declared.Month.TheVariants.{Number, Absent}
 use Rattle.calendar.specs.Gregorian.{month_on}
 use Rattle.meaning.specs.declared.Rule.{Rule}
-use Rattle.meaning.specs.declared.Reading.{Reading}
+use Rattle.meaning.specs.Reading.{Reading}
 use Rattle.meaning.specs.Walk.{any, listed}
 use Rattle.meaning.specs.Bytes.{byte, two, four, signed, eq_z}
 use Rattle.meaning.specs.Order.{need, and_then, Test, in_order}
@@ -72,9 +70,9 @@ bounds_fit r =
 abbrev pub lengths_fit : Rule → ℕ → Bool
 lengths_fit r most = leb 1 r.span && leb r.span most && leb 1 r.slide && leb r.slide most
 
-abbrev pub is_month : Month → Bool
-is_month (Number k) = true
-is_month Absent = false
+abbrev pub is_month : Option ℕ → Bool
+is_month (Some k) = true
+is_month None = false
 
 -- 25: by the unit; a sequenced rule has unit 0
 unfoldable pub window_fits : Rule → ℕ → Bool

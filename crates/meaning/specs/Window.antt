@@ -1,15 +1,12 @@
 -- Windows, the offenders of a window, and the verdict of a non-sequenced rule (MEANING 10, 11, 12).
-use Rattle.std.specs.Prelude.{ℕ, zero, suc, ◌+◌, ◌-◌, Bool, false, ◌&&◌, ◌||◌, not, cond, List, [], ◌∷◌, pos, ◌-ℤ◌, leb, ltb, eqb}
+use Rattle.std.specs.Prelude.{ℕ, zero, suc, ◌+◌, ◌-◌, Bool, false, ◌&&◌, ◌||◌, not, cond, List, [], ◌∷◌, pos, ◌-ℤ◌, leb, ltb, eqb, Option, Some, None}
 use Rattle.std.specs.Int.Signed.{le_z}
 use Rattle.meaning.specs.Rules.{by_kind}
-use Rattle.calendar.specs.declared.Month.{Month}
-use Rattle.calendar.specs.declared.Month.TheVariants.{Number, Absent}
 use Rattle.calendar.specs.Gregorian.{month_day, month_start, month_on}
-use Rattle.meaning.specs.declared.Found.{Found}
+use Rattle.meaning.specs.declared.Verdict.TheVariants.{Holds, Fails}
 use Rattle.meaning.specs.declared.Rule.{Rule}
 use Rattle.meaning.specs.declared.Verdict.{Verdict}
-use Rattle.meaning.specs.declared.Verdict.TheVariants.{Holds, Fails}
-use Rattle.meaning.specs.Walk.{any, count, first, on_found}
+use Rattle.meaning.specs.Walk.{any, count, first, on_found, Found}
 use Rattle.meaning.specs.Document.{Doc, is_version, number_of}
 use Rattle.meaning.specs.Select.{same_value, is_nil, is_number, within, present, gives, has_nil, has}
 
@@ -114,9 +111,9 @@ windows_from window r (suc n) k =
     cond (ltb (window k).from r.end) rest []
 
 -- the month windows of a period that begins with month k
-abbrev pub month_windows : Rule → Month → List Window
-month_windows r (Number k) = windows_from (month_window r) r (r.end - r.begin) k
-month_windows r Absent = []
+abbrev pub month_windows : Rule → Option ℕ → List Window
+month_windows r (Some k) = windows_from (month_window r) r (r.end - r.begin) k
+month_windows r None = []
 
 -- by the unit: the whole period, days, months
 unfoldable pub windows_by : Rule → ℕ → List Window

@@ -1,41 +1,18 @@
 // The records and the answers of docs/MEANING.md, as the code passes them and the definitions in specs/ use them.
 #![tactic(auto)]
 
-// The lowest number that passes a test, or that none does.
-#[derive(Clone, Copy)]
-pub enum Found {
-    At(usize),
-    Nothing,
+// Why a call refused: the number of the refusal in section 13 of docs/MEANING.md, and its place.
+#[derive(Clone, Copy, Debug, PartialEq, Eq)]
+pub struct Refusal {
+    pub number: usize,
+    pub place: usize,
 }
 
-// What comes of reading an image: accepted, or refused with a number and a place.
-#[derive(Clone, Copy)]
-pub enum Reading {
-    Accepted,
-    Refused(usize, usize),
-}
-
-// The answer on one rule: holds, with how many slices or windows were looked at; fails, with the day, the record
-// and how many; or refused, with a number and a place.
-#[derive(Clone, Copy)]
+// The verdict on one rule: holds, with how many slices or windows were looked at; or fails, with the day, the record and how many.
+#[derive(Clone, Copy, Debug, PartialEq, Eq)]
 pub enum Verdict {
     Holds(usize),
     Fails(usize, usize, usize),
-    Refused(usize, usize),
-}
-
-// The answer of a call that fills a lent list: how many numbers it stored, or refused with a number and a place.
-#[derive(Clone, Copy)]
-pub enum Listed {
-    Stored(usize),
-    Refused(usize, usize),
-}
-
-// The answer of a call that writes an image: how many bytes it wrote, or refused with a number and a place.
-#[derive(Clone, Copy)]
-pub enum Output {
-    Written(usize),
-    Refused(usize, usize),
 }
 
 // One kind of image: the block's kind byte, the bytes of a record, the records of a full block, the most blocks, and what is

@@ -6,14 +6,14 @@ use native.Mathlib.Omega.{arith}
 use lib.IntN.{ℤ, pos}
 use lib.ListN.{length, take, length-replicate}
 use Rattle.meaning.specs.declared.Node.{Node}
-use Rattle.meaning.specs.declared.Reading.{Reading}
-use Rattle.meaning.specs.declared.Reading.TheVariants.{Accepted, Refused}
+use Rattle.meaning.specs.Reading.{Reading, Accepted, Refused}
+use Rattle.std.specs.Prelude.{Result}
+use Rattle.meaning.specs.declared.Refusal.{Refusal}
 use Rattle.meaning.specs.Order.{in_order}
 use Rattle.meaning.specs.Bytes.{byte, two, four, signed}
 use Rattle.meaning.specs.Block.{node_form, image_tests, records, record_of, limit}
 use Rattle.meaning.specs.Document.{columns}
 use Rattle.meaning.specs.Nodes.{node_in, nodes_of, accept, read_nodes}
-use Rattle.columns.specs.declared.Loaded.{Loaded}
 use Rattle.document.specs.Front.{Front}
 use Rattle.nodes.specs.Filled.{filled}
 use Rattle.nodes.specs.Loading.{loaded, tell_loaded}
@@ -53,7 +53,7 @@ module _ (image : List ℕ) where
     unfolding column_of records_in records_after
     column_none field zero c = rw e c
 
-    pub unpacks_none : {y : Reading} → y ≡ in_order (image_tests node_form image) → (m : ℕ) {x : Loaded} → x ≡ loaded y m
+    pub unpacks_none : {y : Reading} → y ≡ in_order (image_tests node_form image) → (m : ℕ) {x : Result ℕ Refusal} → x ≡ loaded y m
         → {kinds vkinds names parents begins ends : List ℕ} {values : List ℤ} {items spares : List ℕ} → Blank kinds vkinds names parents begins ends values items spares
         → Unpacks image (together x kinds vkinds names parents begins ends values items)
     unpacks_none {y} ey m {x} ex c =
@@ -86,7 +86,7 @@ module _ (image : List ℕ) where
         → values ≡ filled (λ i. signed (four (record_of node_form image i) 10)) n z₀ → items ≡ filled (λ i. four (record_of node_form image i) 14) n i₀
         → spares ≡ filled (λ i. two (record_of node_form image i) 18) n s₀
         → {y : Reading} → y ≡ accept (columns (take n kinds) (take n vkinds) (take n names) (take n parents) (take n begins) (take n ends) (take n values) (take n items) (take n spares))
-        → {x : Loaded} → x ≡ loaded y n → Unpacks image (together x kinds vkinds names parents begins ends values items)
+        → {x : Result ℕ Refusal} → x ≡ loaded y n → Unpacks image (together x kinds vkinds names parents begins ends values items)
     unfolding node_in
     unpacks_all {k₀} {v₀} {n₀} {p₀} {b₀} {e₀} {z₀} {i₀} {s₀} c hk hv hn hp hb he hz hi hs {y} ey ex =
         let read : y ≡ read_nodes image = by-document image (sym good) refl (ey ∙ ap accept (image-document image n en k₀ v₀ n₀ p₀ b₀ e₀ z₀ i₀ s₀ hk hv hn hp hb he hz hi hs)) in

@@ -8,8 +8,9 @@ use lib.IntN.{pos}
 use lib.ListN.{length, get_or, take, drop, length-map, length-take}
 use lib.Seq.{take_at}
 use Rattle.meaning.specs.declared.Node.{Node}
-use Rattle.meaning.specs.declared.Reading.{Reading}
-use Rattle.meaning.specs.declared.Reading.TheVariants.{Accepted, Refused}
+use Rattle.meaning.specs.Reading.{Reading, Accepted, Refused}
+use Rattle.std.specs.Prelude.{Result, Ok, Err}
+use Rattle.meaning.specs.declared.Refusal.{Refusal}
 use Rattle.meaning.specs.Order.{in_order}
 use Rattle.meaning.specs.Block.{node_form, image_tests, records, record_of, limit}
 use Rattle.meaning.specs.Document.{of_nodes}
@@ -21,8 +22,6 @@ use Rattle.block.proofs.Places.{count-all}
 use Rattle.columns.specs.Lent.{Lends, Whole}
 use Rattle.columns.specs.Judgeable.{Judgeable}
 use Rattle.columns.proofs.Judging.{judgeable}
-use Rattle.columns.specs.declared.Loaded.{Loaded}
-use Rattle.columns.specs.declared.Loaded.TheVariants.{Nodes, Refused as Unloaded}
 use Rattle.columns.specs.declared.Columns.{Columns}
 use Rattle.nodes.specs.Loading.{loaded, tell_loaded}
 use Rattle.nodes.specs.Unpacking.{Unpacks, blank, column_of}
@@ -34,23 +33,23 @@ fair : Fair node_form
 fair = record { some = omega arith; room = omega arith; each_small = omega arith; most_small = omega arith; base_small = omega arith }
 
 -- an answer is a reading's refusal, or how many records were read
-module _ (y : Reading) (m : ℕ) {x : Loaded} (ex : tell_loaded x ≡ tell_loaded (loaded y m)) where
+module _ (y : Reading) (m : ℕ) {x : Result ℕ Refusal} (ex : tell_loaded x ≡ tell_loaded (loaded y m)) where
   same : x ≡ loaded y m
   same = loaded-unique x (loaded y m) ex
 
-  pub told-refused : {k p : ℕ} → x ≡ Unloaded k p → y ≡ Refused k p
+  pub told-refused : {k p : ℕ} → x ≡ Refused k p → y ≡ Refused k p
   told-refused {k} {p} r = go y refl
     where
       go : (z : Reading) → y ≡ z → y ≡ Refused k p
-      go Accepted e = let w : Unloaded k p ≡ Nodes m = sym r ∙ same ∙ rw e in let wrong : ◌≡◌ {A = ℕ} 0 1 = cc in absurd (omega arith)
-      go (Refused l q) e = let w : Unloaded k p ≡ Unloaded l q = sym r ∙ same ∙ rw e in e ∙ cc
+      go Accepted e = let w : Refused k p ≡ Ok m = sym r ∙ same ∙ rw e in let wrong : ◌≡◌ {A = ℕ} 0 1 = cc in absurd (omega arith)
+      go (Err why) e = let w : Refused k p ≡ Err why = sym r ∙ same ∙ rw e in e ∙ cc
 
-  pub told-nodes : {n : ℕ} → x ≡ Nodes n → (y ≡ Accepted) × (n ≡ m)
+  pub told-nodes : {n : ℕ} → x ≡ Ok n → (y ≡ Accepted) × (n ≡ m)
   told-nodes {n} r = go y refl
     where
       go : (z : Reading) → y ≡ z → (y ≡ Accepted) × (n ≡ m)
-      go Accepted e = let w : Nodes n ≡ Nodes m = sym r ∙ same ∙ rw e in (e, cc)
-      go (Refused l q) e = let w : Nodes n ≡ Unloaded l q = sym r ∙ same ∙ rw e in let wrong : ◌≡◌ {A = ℕ} 0 1 = cc in absurd (omega arith)
+      go Accepted e = let w : Ok n ≡ Ok m = sym r ∙ same ∙ rw e in (e, cc)
+      go (Err why) e = let w : Ok n ≡ Err why = sym r ∙ same ∙ rw e in let wrong : ◌≡◌ {A = ℕ} 0 1 = cc in absurd (omega arith)
 
 -- an accepted image, and how many records it has
 pub record Held (image : List ℕ) (n : ℕ) : Type 0 where
@@ -67,15 +66,15 @@ module _ (image : List ℕ) where
       omega (arith, length_listed (λ i. node_in (record_of node_form image i)) 0 (records node_form image), all.count, all.few)
 
   -- the image's refusal, or how many records it has
-  module _ {x : Loaded} (ex : tell_loaded x ≡ tell_loaded (loaded (read_nodes image) (length (nodes_of image)))) where
-    pub refused_image : {k p : ℕ} → x ≡ Unloaded k p → read_nodes image ≡ Refused k p
+  module _ {x : Result ℕ Refusal} (ex : tell_loaded x ≡ tell_loaded (loaded (read_nodes image) (length (nodes_of image)))) where
+    pub refused_image : {k p : ℕ} → x ≡ Refused k p → read_nodes image ≡ Refused k p
     refused_image r = told-refused (read_nodes image) (length (nodes_of image)) ex r
 
-    pub held-image : {n : ℕ} → x ≡ Nodes n → Held image n
+    pub held-image : {n : ℕ} → x ≡ Ok n → Held image n
     held-image r = let t = told-nodes (read_nodes image) (length (nodes_of image)) ex r in record { accepted = t.0; count = t.1; few = omega (arith, t.1, nodes_few t.0) }
 
   -- accepted: the columns hold its document
-  module _ {c : Columns} (u : Unpacks image c) {n : ℕ} (r : c.loaded ≡ Nodes n) where
+  module _ {c : Columns} (u : Unpacks image c) {n : ℕ} (r : c.loaded ≡ Ok n) where
     pub held : Held image n
     held = held-image u.answer r
 

@@ -7,8 +7,8 @@ use native.Mathlib.Omega.{arith}
 use borrow.Author.Tests.{not-true, not-false}
 use lib.ListN.{length, drop}
 use Rattle.meaning.specs.declared.Node.{Node}
-use Rattle.meaning.specs.declared.Reading.{Reading}
-use Rattle.meaning.specs.declared.Reading.TheVariants.{Accepted, Refused}
+use Rattle.meaning.specs.Reading.{Reading, Accepted, Refused}
+use Rattle.std.specs.Prelude.{Ok}
 use Rattle.meaning.specs.Order.{and_then, in_order}
 use Rattle.meaning.specs.Block.{node_form, image_tests, records, record_of, blocks}
 use Rattle.meaning.specs.Nodes.{node_in, nodes_of, doc_of, accept, read_nodes}
@@ -17,7 +17,6 @@ use Rattle.meaning.proofs.Orders.{then_accepted}
 use Rattle.meaning.proofs.Unique.{reading_unique}
 use Rattle.meaning.proofs.Says.{says}
 use Rattle.meaning.proofs.Walks.{length_listed}
-use Rattle.columns.specs.declared.Loaded.TheVariants.{Nodes, Refused as Unloaded}
 use Rattle.nodes.specs.Filled.{filled, Roomy}
 use Rattle.meaning.specs.Lent.{roomy}
 use Rattle.nodes.specs.Loading.{tell_loaded, loading}
@@ -52,17 +51,17 @@ module _ (image : List ℕ) {x : Reading} (told : tell_reading x ≡ tell_readin
 
   module _ (a b c d e f g h : ℕ) where
     -- refused as the image is
-    pub as_image : {k p : ℕ} → x ≡ Refused k p → tell_loaded (Unloaded k p) ≡ tell_loaded (loading image a b c d e f g h)
+    pub as_image : {k p : ℕ} → x ≡ Refused k p → tell_loaded (Refused k p) ≡ tell_loaded (loading image a b c d e f g h)
     unfolding loading
     as_image r = rw (sym ex ∙ r)
 
     module _ (ax : x ≡ Accepted) (n : ℕ) (en : n ≡ records node_form image) {w : Bool} (ew : w ≡ roomy n a b c d e f g h) where
       -- refused with 12, or unpacked
-      pub no_room : not w ≡ true → tell_loaded (Unloaded 12 0) ≡ tell_loaded (loading image a b c d e f g h)
+      pub no_room : not w ≡ true → tell_loaded (Refused 12 0) ≡ tell_loaded (loading image a b c d e f g h)
       unfolding loading
       no_room t = rw (sym ex ∙ ax, counted image n en, sym ew ∙ not-true w t)
 
-      pub with_room : not w ≡ false → tell_loaded (Nodes n) ≡ tell_loaded (loading image a b c d e f g h)
+      pub with_room : not w ≡ false → tell_loaded (Ok n) ≡ tell_loaded (loading image a b c d e f g h)
       unfolding loading
       with_room t = rw (sym ex ∙ ax, counted image n en, sym ew ∙ not-false w t)
 

@@ -5,23 +5,24 @@ use mathlib.Core.List.{List}
 use Prim.Native.Nat.{ℕ}
 use lib.Dec.{eqb}
 use Rattle.meaning.specs.Answer.{Told}
-use Rattle.columns.specs.declared.Loaded.{Loaded}
-use Rattle.columns.specs.declared.Loaded.TheVariants.{Nodes, Refused as Unloaded}
+use Rattle.std.specs.Prelude.{Result, Ok, Err}
+use Rattle.meaning.specs.declared.Refusal.{Refusal}
+use Rattle.meaning.specs.Reading.{Refused}
 use Rattle.columns.specs.declared.Columns.{Columns}
 use Rattle.nodes.specs.Loading.{tell_loaded}
 use Rattle.nodes.specs.Unpacking.{Unpacks, together}
 
 -- the answer that was told
-abbrev back : Told → Loaded
-back t = cond (eqb t.outcome 0) (Nodes t.count) (Unloaded t.number t.place)
+abbrev back : Told → Result ℕ Refusal
+back t = cond (eqb t.outcome 0) (Ok t.count) (Refused t.number t.place)
 
-pub loaded-unique : (a b : Loaded) → tell_loaded a ≡ tell_loaded b → a ≡ b
+pub loaded-unique : (a b : Result ℕ Refusal) → tell_loaded a ≡ tell_loaded b → a ≡ b
 unfolding tell_loaded
 loaded-unique a b e = sym (same a) ∙ ap back e ∙ same b
   where
-    same : (x : Loaded) → back (tell_loaded x) ≡ x
-    same (Nodes n) = refl
-    same (Unloaded k i) = refl
+    same : (x : Result ℕ Refusal) → back (tell_loaded x) ≡ x
+    same (Ok n) = refl
+    same (Err why) = refl
 
 -- the columns that `read_columns` may answer for one image
 pub columns-unique : (image : List ℕ) (c d : Columns) → Unpacks image c → Unpacks image d → c ≡ d

@@ -1,24 +1,23 @@
 -- What columns of its own hold of an image, entry by entry, refused or not: what came of reading it, one field of every record, and zeros past them.
-use Rattle.std.specs.Prelude.{◌≡◌, List, [], ◌++◌, map, ℤ, pos, ℕ, length, drop, replicate}
+use Rattle.std.specs.Prelude.{◌≡◌, List, [], ◌++◌, map, ℤ, pos, ℕ, length, drop, replicate, Result, Err}
 use Rattle.meaning.specs.declared.Node.{Node}
-use Rattle.meaning.specs.declared.Reading.{Reading}
-use Rattle.meaning.specs.declared.Reading.TheVariants.{Accepted, Refused}
+use Rattle.meaning.specs.Reading.{Reading, Accepted}
+use Rattle.meaning.specs.declared.Refusal.{Refusal}
 use Rattle.meaning.specs.Order.{in_order}
 use Rattle.meaning.specs.Block.{node_form, image_tests, limit}
 use Rattle.meaning.specs.Nodes.{nodes_of, read_nodes}
-use Rattle.columns.specs.declared.Loaded.{Loaded}
 use Rattle.columns.specs.declared.Columns.{Columns}
 use Rattle.nodes.specs.Loading.{loaded, tell_loaded}
 
 -- what came of reading, and eight columns
-abbrev pub together : Loaded → List ℕ → List ℕ → List ℕ → List ℕ → List ℕ → List ℕ → List ℤ → List ℕ → Columns
+abbrev pub together : Result ℕ Refusal → List ℕ → List ℕ → List ℕ → List ℕ → List ℕ → List ℕ → List ℤ → List ℕ → Columns
 together answer kind vkind name parent begin end value item =
     record { loaded = answer; kind = kind; vkind = vkind; name = name; parent = parent; begin = begin; end = end; value = value; item = item }
 
 -- all records where the blocks are good, none where one of them was refused
 unfoldable pub records_after : Reading → List Node → List Node
 records_after Accepted records = records
-records_after (Refused number place) records = []
+records_after (Err why) records = []
 
 -- the records that are unpacked, whether or not the document that they make is then refused
 unfoldable pub records_in : List ℕ → List Node

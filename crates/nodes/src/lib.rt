@@ -11,8 +11,8 @@ ghost use Rattle.nodes.specs.Filled.{filled, Roomy};
 ghost use Rattle.nodes.specs.Loading.{loaded, tell_loaded, loading, unpacked};
 ghost use Rattle.nodes.specs.Unpacking.{Unpacks, Blank, together};
 
-use columns::{Columns, LIMIT, Loaded};
-use meaning::Reading;
+use columns::{Columns, LIMIT, Records};
+use meaning::Refusal;
 
 pub mod fill; // fill.rt: one column, from the records of an image
 
@@ -39,24 +39,22 @@ fn unpack(
     ensures value { value.new ≡ filled (λ i. signed (four (record_of node_form image.now i) 10)) n value.old }
     ensures item { item.new ≡ filled (λ i. four (record_of node_form image.now i) 14) n item.old }
 {
-    fill::fill_bytes(image, n, 0, kind);
-    fill::fill_bytes(image, n, 1, vkind);
-    fill::fill_pairs(image, n, 2, name);
-    fill::fill_pairs(image, n, 4, parent);
-    fill::fill_pairs(image, n, 6, begin);
-    fill::fill_pairs(image, n, 8, end);
-    fill::fill_signed(image, n, 10, value);
-    fill::fill_quads(image, n, 14, item);
+    fill::fill(image, n, 0, kind);
+    fill::fill(image, n, 1, vkind);
+    fill::fill(image, n, 2, name);
+    fill::fill(image, n, 4, parent);
+    fill::fill(image, n, 6, begin);
+    fill::fill(image, n, 8, end);
+    fill::fill(image, n, 10, value);
+    fill::fill(image, n, 14, item);
 }
 
 // The answer on n records that were read.
-pub fn told(read: Reading, n: usize) -> Loaded
+pub fn told(read: Result<(), Refusal>, n: usize) -> Result<usize, Refusal>
     ensures { result ≡ loaded read n }
 {
-    match read {
-        Reading::Accepted => Loaded::Nodes(n),
-        Reading::Refused(number, place) => Loaded::Refused(number, place),
-    }
+    read?;
+    Ok(n)
 }
 
 // A whole image read into columns of zeros with room for the largest document. One pass over the blocks, one look at each record for each
@@ -72,20 +70,25 @@ fn read_into(
     value: &mut [i32],
     item: &mut [u32],
     spare: &mut [u16],
-) -> Loaded
+) -> Result<usize, Refusal>
     requires { Blank kind.old vkind.old name.old parent.old begin.old end.old value.old item.old spare.old }
     ensures { Unpacks image.now (together result kind.new vkind.new name.new parent.new begin.new end.new value.new item.new) }
 {
-    let blocks = block::node_blocks(image);
-    let Reading::Accepted = blocks else {
-        return told(blocks, 0);
-    };
+    block::node_blocks(image)?;
     let n = block::count_records(image, block::NODES);
     unpack(image, n, kind, vkind, name, parent, begin, end, value, item);
-    fill::fill_pairs(image, n, 18, spare);
-    let read = document::front::accept_front(
-        n, kind, vkind, name, parent, begin, end, value, item, spare,
-    );
+    fill::fill(image, n, 18, spare);
+    let records = Records {
+        kind: &*kind,
+        vkind: &*vkind,
+        name: &*name,
+        parent: &*parent,
+        begin: &*begin,
+        end: &*end,
+        value: &*value,
+        item: &*item,
+    };
+    let read = document::front::accept_front(n, records, spare);
     told(read, n)
 }
 
@@ -130,15 +133,12 @@ pub fn read_columns(image: &[u8]) -> Columns
 }
 
 // What comes of a whole image, 1 to 10, for every byte string. Cost: as `read_columns`, of which it is the answer.
-pub fn read_nodes(image: &[u8]) -> Reading
+pub fn read_nodes(image: &[u8]) -> Result<(), Refusal>
     ensures { tell_reading result ≡ tell_reading (read_nodes image.now) }
 {
     let columns = read_columns(image);
-    let loaded = columns.loaded;
-    match loaded {
-        Loaded::Nodes(_) => Reading::Accepted,
-        Loaded::Refused(number, place) => Reading::Refused(number, place),
-    }
+    columns.loaded?;
+    Ok(())
 }
 
 // An image unpacked into eight lent columns, for every byte string: where it is accepted and there is room, each column holds
@@ -154,7 +154,7 @@ pub fn load(
     end: &mut [u16],
     value: &mut [i32],
     item: &mut [u32],
-) -> Loaded
+) -> Result<usize, Refusal>
     ensures answer { tell_loaded result ≡ tell_loaded (loading image.now (length kind.old) (length vkind.old) (length name.old) (length parent.old) (length begin.old) (length end.old) (length value.old) (length item.old)) }
     ensures kind { kind.new ≡ unpacked result (λ (n : Node). n.kind) image.now kind.old }
     ensures vkind { vkind.new ≡ unpacked result (λ (n : Node). n.vkind) image.now vkind.old }
@@ -165,27 +165,24 @@ pub fn load(
     ensures value { value.new ≡ unpacked result (λ (n : Node). n.value) image.now value.old }
     ensures item { item.new ≡ unpacked result (λ (n : Node). n.item) image.now item.old }
 {
-    let read = read_nodes(image);
-    match read {
-        Reading::Refused(number, place) => {
-            return Loaded::Refused(number, place);
-        }
-        Reading::Accepted => {}
-    }
+    read_nodes(image)?;
     let n = block::count_records(image, block::NODES);
-    if !document::front::has_room(
-        n,
-        kind.len(),
-        vkind.len(),
-        name.len(),
-        parent.len(),
-        begin.len(),
-        end.len(),
-        value.len(),
-        item.len(),
-    ) {
-        return Loaded::Refused(12, 0);
+    let records = Records {
+        kind: &*kind,
+        vkind: &*vkind,
+        name: &*name,
+        parent: &*parent,
+        begin: &*begin,
+        end: &*end,
+        value: &*value,
+        item: &*item,
+    };
+    if !document::front::has_room(n, records) {
+        return Err(Refusal {
+            number: 12,
+            place: 0,
+        });
     }
     unpack(image, n, kind, vkind, name, parent, begin, end, value, item);
-    Loaded::Nodes(n)
+    Ok(n)
 }

@@ -1,17 +1,13 @@
--- Stores at one place after the other, as the code counts the places and as `sets` does.
-use mathlib.Core.Path.{◌≡◌}
-use mathlib.Core.List.{List, [], ◌∷◌}
-use Prim.Native.Nat.{ℕ, suc, ◌+◌}
-use native.Mathlib.Numerals.{add-one}
+-- Bytes copied to a place, as the part that was lent from there on and as `sets` does.
+use mathlib.Core.Path.{◌≡◌, sym, ◌∙◌}
+use mathlib.Core.List.{List, append_assoc}
+use Prim.Native.Nat.{ℕ, ◌+◌, ◌-◌, ◌≤◌}
 use native.Mathlib.Omega.{arith}
-use lib.ListN.{set}
-use lib.Seq.{sets}
+use lib.ListN.{length, take}
+use lib.Seq.{sets-eq}
+use borrow.Rule.Slice.PartMut.{put_mid, Post-is}
+use Rattle.numbers.specs.Put.{Put}
 
-pub two-stores : (l : List ℕ) (at a b : ℕ) → set (set l at a) (at + 1) b ≡ sets l at (a ∷ b ∷ [])
-two-stores l at a b = rw add-one
-
-pub four-stores : (l : List ℕ) (at a b c d : ℕ) → set (set (set (set l at a) (at + 1) b) (at + 2) c) (at + 3) d ≡ sets l at (a ∷ b ∷ c ∷ d ∷ [])
-four-stores l at a b c d =
-    let second : at + 2 ≡ suc (suc at) = omega arith in
-    let third : at + 3 ≡ suc (suc (suc at)) = omega arith in
-    rw (add-one, second, third)
+pub copied : (l vs part : List ℕ) (at to : ℕ) → part ≡ vs → at + length vs ≡ to → to ≤ length l → Put l at vs (put_mid at (to - at) l part)
+copied l vs part at to e long fits =
+    record { is = rw (e, Post-is at to l (omega (arith, long))) (sym (sets-eq vs l at (omega (arith, long)) ∙ append_assoc (take at l) vs _ ∙ rw long)) }

@@ -5,12 +5,11 @@ use mathlib.Core.List.{List}
 use Prim.Native.Nat.{ℕ, ◌≤◌, ◌<◌}
 use lib.ListN.{length}
 use borrow.Author.Tests.{lt-ltb, le-ltb, ne_eqb}
-use Rattle.meaning.specs.declared.Reading.TheVariants.{Accepted, Refused}
+use Rattle.meaning.specs.Reading.{Accepted, Refused}
 use Rattle.meaning.specs.Nodes.{read_nodes}
 use Rattle.meaning.specs.Rules.{rule_at, rules_of, read_rules}
 use Rattle.meaning.specs.Answer.{read_changes}
 use Rattle.meaning.proofs.Says.{says}
-use Rattle.columns.specs.declared.Loaded.TheVariants.{Refused as Unloaded}
 use Rattle.columns.specs.declared.Columns.{Columns}
 use Rattle.opening.specs.Opening.{Opens}
 use Rattle.opening.proofs.Opens.{still, refused_both}
@@ -37,6 +36,6 @@ module _ (nodes rules : List ℕ) (k : ℕ) where
   changes_read_windowed n r h w = rw (n, r, lt-ltb k (length (rules_of rules)) h, ne_eqb (rule_at (rules_of rules) k).windowed 0 w)
 
   -- a refusal of either image, known from what was opened
-  pub changes_read_opened : {c : Columns} → Opens nodes rules c → {a b : ℕ} → c.loaded ≡ Unloaded a b → read_changes nodes rules k ≡ Refused a b
+  pub changes_read_opened : {c : Columns} → Opens nodes rules c → {a b : ℕ} → c.loaded ≡ Refused a b → read_changes nodes rules k ≡ Refused a b
   unfolding read_changes
   changes_read_opened o r = still (read_nodes nodes) (read_rules rules) _ (refused_both rules o r)

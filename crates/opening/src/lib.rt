@@ -7,7 +7,8 @@ ghost use Rattle.nodes.specs.Unpacking.{Unpacks, together};
 ghost use Rattle.std.specs.Prelude.{◌≡◌};
 ghost use Rattle.opening.specs.Opening.{Opens, after_rules};
 
-use columns::{Columns, Loaded};
+use columns::Columns;
+use meaning::Refusal;
 
 // A node image by itself.
 pub fn open_nodes(nodes: &[u8]) -> Columns
@@ -17,17 +18,15 @@ pub fn open_nodes(nodes: &[u8]) -> Columns
 }
 
 // What came of both images: the node image's refusal, then the table's, else how many records there are.
-pub fn after_rules(loaded: Loaded, rules: &[u8]) -> Loaded
+pub fn after_rules(loaded: Result<usize, Refusal>, rules: &[u8]) -> Result<usize, Refusal>
     ensures { result ≡ after_rules loaded (read_rules rules.now) }
 {
-    let Loaded::Nodes(n) = loaded else {
-        return loaded;
-    };
+    let n = loaded?;
     nodes::told(rules::read_rules(rules), n)
 }
 
 // The same columns, and what came of both images beside them.
-fn beside(columns: Columns, loaded: Loaded) -> Columns
+fn beside(columns: Columns, loaded: Result<usize, Refusal>) -> Columns
     ensures { result ≡ together loaded columns.kind columns.vkind columns.name columns.parent columns.begin columns.end columns.value columns.item }
 {
     let kind = columns.kind;

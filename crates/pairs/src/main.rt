@@ -6,9 +6,9 @@
 
 ghost use Rattle.std.specs.Prelude.{◌≤◌};
 
-use columns::{Columns, Loaded};
+use columns::Columns;
 use judging::Judged;
-use meaning::{Listed, Output, Verdict};
+use meaning::{Refusal, Verdict};
 use std::io::Read;
 use std::{fs, io};
 
@@ -44,7 +44,7 @@ fn write_report(rt: &impl Print, nodes: &[u8], rules: &[u8]) -> io::Result<()> {
 fn short(head: &[u8; 20], at: usize) -> usize
     requires { at ≤ 18 }
 {
-    numbers::two_at(head, at) as usize
+    usize::from(numbers::two_at(head, at))
 }
 
 // The number in four bytes of a header.
@@ -54,19 +54,11 @@ fn long(head: &[u8; 20], at: usize) -> usize
     numbers::four_at(head, at) as usize
 }
 
-// A number of a list, after a space.
-fn put_entry(line: &mut [u8], at: usize, x: u16) -> usize {
-    spelling::put_next(line, at, x as usize)
-}
-
-// The first n numbers of a list, or all.
+// The first n numbers of a list, or all, each after a space.
 fn put_entries(line: &mut [u8], at: usize, list: &[u16], n: usize) -> usize {
     let mut to = at;
-    for (i, entry) in list.iter().enumerate() {
-        if n <= i {
-            return to;
-        }
-        to = put_entry(line, to, *entry);
+    for entry in list.iter().take(n) {
+        to = spelling::put_next(line, to, usize::from(*entry));
     }
     to
 }
@@ -83,19 +75,19 @@ fn write_list(
     rt: &impl Print,
     word: &[u8],
     asked: usize,
-    listed: Listed,
+    listed: Result<usize, Refusal>,
     list: &[u16],
 ) -> io::Result<()> {
     let mut line = [0u8; LINE];
     let named = spelling::put(&mut line, 0, word);
     let at = spelling::put_next(&mut line, named, asked);
     match listed {
-        Listed::Stored(n) => {
+        Ok(n) => {
             let counted = spelling::put_next(&mut line, at, n);
             let end = put_entries(&mut line, counted, list, n);
             write_line(rt, &mut line, end)
         }
-        Listed::Refused(number, place) => {
+        Err(Refusal { number, place }) => {
             let end = put_refused(&mut line, at, number, place);
             write_line(rt, &mut line, end)
         }
@@ -103,7 +95,7 @@ fn write_list(
 }
 
 // The slice of a day by one of the engines.
-fn slice_by(nodes: &[u8], day: usize, list: &mut [u16], plainly: bool) -> Listed {
+fn slice_by(nodes: &[u8], day: usize, list: &mut [u16], plainly: bool) -> Result<usize, Refusal> {
     if plainly {
         return plain::slice(nodes, day, list);
     }
@@ -167,7 +159,7 @@ fn write_changes_in(
 }
 
 // The verdict on a rule by one of the engines.
-fn verdict_by(nodes: &[u8], rules: &[u8], rule: usize, plainly: bool) -> Verdict {
+fn verdict_by(nodes: &[u8], rules: &[u8], rule: usize, plainly: bool) -> Result<Verdict, Refusal> {
     if plainly {
         return plain::verdict(nodes, rules, rule);
     }
@@ -192,11 +184,9 @@ fn write_verdict(
 
 // Whether a verdict took more looks than it needs: one place where the rule fails, none where it holds.
 fn alarmed(found: Judged) -> bool {
-    let verdict = found.verdict;
-    match verdict {
-        Verdict::Fails(_day, _record, _count) => found.looked != 1,
-        Verdict::Holds(_count) => found.looked != 0,
-        Verdict::Refused(_number, _place) => false,
+    match found.verdict {
+        Verdict::Fails(_, _, _) => found.looked != 1,
+        Verdict::Holds(_) => found.looked != 0,
     }
 }
 
@@ -215,11 +205,9 @@ fn write_alarm(rt: &impl Print, rule: usize, looked: usize) -> io::Result<()> {
 // The lines of all rules on which a false alarm was followed.
 fn write_alarms(rt: &impl Print, nodes: &[u8], rules: &[u8]) -> io::Result<()> {
     for k in 0..RULES {
-        let found = bank::looking::judge(nodes, rules, k);
-        let verdict = found.verdict;
-        if let Verdict::Refused(_number, _place) = verdict {
+        let Ok(found) = bank::looking::judge(nodes, rules, k) else {
             return Ok(());
-        }
+        };
         if alarmed(found) {
             write_alarm(rt, k, found.looked)?;
         }
@@ -227,53 +215,10 @@ fn write_alarms(rt: &impl Print, nodes: &[u8], rules: &[u8]) -> io::Result<()> {
     Ok(())
 }
 
-// Whether two stretches of bytes are the same.
-fn same(a: &[u8], b: &[u8]) -> bool {
-    if a.len() != b.len() {
-        return false;
-    }
-    for i in 0..a.len() {
-        if a[i] != b[i] {
-            return false;
-        }
-    }
-    true
-}
-
-// The first n records of columns, written to a lent image.
-fn written<'a>(
-    n: usize,
-    kind: &'a [u8],
-    vkind: &'a [u8],
-    name: &'a [u16],
-    parent: &'a [u16],
-    begin: &'a [u16],
-    end: &'a [u16],
-    value: &'a [i32],
-    item: &'a [u32],
-    image: &mut [u8],
-) -> Output {
-    bank::write_nodes(n, kind, vkind, name, parent, begin, end, value, item, image)
-}
-
 // The records of an opened image written to a lent one; or what it was refused with.
-fn written_again(columns: Columns, image: &mut [u8]) -> Output {
-    let loaded = columns.loaded;
-    match loaded {
-        Loaded::Refused(number, place) => Output::Refused(number, place),
-        Loaded::Nodes(n) => written(
-            n,
-            &columns.kind,
-            &columns.vkind,
-            &columns.name,
-            &columns.parent,
-            &columns.begin,
-            &columns.end,
-            &columns.value,
-            &columns.item,
-            image,
-        ),
-    }
+fn written_again(columns: Columns, image: &mut [u8]) -> Result<usize, Refusal> {
+    let n = columns.loaded?;
+    bank::write_nodes(n, columns.all(), image)
 }
 
 // Whether a node image came back, in a lent image of its length.
@@ -282,12 +227,12 @@ fn write_again(rt: &impl Print, nodes: &[u8], image: &mut [u8]) -> io::Result<()
     let at = spelling::put(&mut line, 0, b"again");
     let output = written_again(opening::open_nodes(nodes), image);
     match output {
-        Output::Refused(number, place) => {
+        Err(Refusal { number, place }) => {
             let end = put_refused(&mut line, at, number, place);
             write_line(rt, &mut line, end)
         }
-        Output::Written(size) => {
-            if (size == nodes.len()) & same(nodes, image) {
+        Ok(size) => {
+            if (size == nodes.len()) & (nodes == &*image) {
                 let end = spelling::put(&mut line, at, b" same");
                 write_line(rt, &mut line, end)
             } else {

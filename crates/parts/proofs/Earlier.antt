@@ -2,10 +2,10 @@
 use mathlib.Core.Path.{◌≡◌}
 use mathlib.Core.Bool.{cond}
 use mathlib.Core.List.{List}
-use Prim.Native.Nat.{ℕ, ◌≤◌, ◌<◌}
+use Prim.Native.Nat.{ℕ, ◌≤◌}
 use native.Mathlib.Omega.{arith}
 use lib.Dec.{ltb}
-use borrow.Author.Tests.{lt-ltb, le-ltb}
+use borrow.Author.Tests.{lt-ltb}
 use Rattle.crowds.specs.Crowds.{ByMany}
 use Rattle.parts.specs.Parts.{ByTwice, ByShared, ByFew, BelowWhole}
 use Rattle.parts.specs.Matched.{ByUnmatched}
@@ -26,13 +26,6 @@ module _ (order lo hi : List ℕ) (n : ℕ) {D E : ℕ} (h : E ≤ D) where
   pub few-earlier : (marks classes keys : List ℕ) (low : ℕ) → ByFew order marks classes keys lo hi n low D → ByFew order marks classes keys lo hi n low E
   unfolding ByFew
   few-earlier marks classes keys low b x p ox mark hx few = omega (arith, b x p ox mark hx few)
-
--- a place is cut or it is not
-pub cut_kept : (place whole i : ℕ) → i ≡ place → i < whole → place ≡ cond (ltb place whole) place 65535
-cut_kept place whole i e h = rw (lt-ltb place whole (omega arith))
-
-pub cut_off : (place whole i : ℕ) → i ≡ place → whole ≤ i → 65535 ≡ cond (ltb place whole) place 65535
-cut_off place whole i e h = rw (le-ltb place whole (omega arith))
 
 -- what a part promises of a place, cut to those below `whole`, and an earlier place, promises it of these
 pub cut_earlier : (P : ℕ → Type 0) (whole place cut E : ℕ) → P place → cut ≡ cond (ltb place whole) place 65535 → E ≤ cut → BelowWhole P whole E

@@ -1,40 +1,20 @@
 -- Records sorted anew by where they count from: marks of those that have a key, and an order of them.
-use mathlib.Core.Path.{◌≡◌, sym, ◌∙◌, ap}
-use mathlib.Core.Bool.{true, false, ◌||◌, cond}
+use mathlib.Core.Path.{◌≡◌, ◌∙◌, ap}
+use mathlib.Core.Bool.{true}
 use mathlib.Core.Logic.{⊎_elim}
 use mathlib.Core.List.{List}
 use Prim.Native.Nat.{ℕ, ◌-◌, ◌≤◌, ◌<◌}
 use native.Mathlib.Omega.{arith}
-use lib.Dec.{eqb, ltb}
+use lib.Dec.{eqb}
 use lib.ListN.{length, get_or, take, length-take, get_or-eq_default}
 use lib.Seq.{get_or-take}
-use borrow.Author.Tests.{lt-ltb, le-ltb, eqb-true, eq-eqb, ne_eqb}
+use borrow.Author.Tests.{lt-ltb, eqb-true}
 use Rattle.meaning.proofs.Basics.{le_or_lt}
 use Rattle.passes.specs.Passes.{On}
 use Rattle.crowds.specs.Crowds.{at, Ordered}
 use Rattle.orders.specs.Order.{InOrder}
 use Rattle.parts.specs.Ground.{Ground}
 use Rattle.parts.specs.Keyed.{KeyMarks}
-
--- the mark of a key that is below n, and of one that is not
-pub mark-in : (key n x : ℕ) → x ≡ key → x < n → true ≡ ltb key n
-mark-in key n x e h = rw (sym e, lt-ltb x n h)
-
-pub mark-out : (key n x : ℕ) → x ≡ key → n ≤ x → false ≡ ltb key n
-mark-out key n x e h = rw (sym e, le-ltb x n h)
-
--- what a marked record has, and what another has
-pub marked-one : (mark one other : ℕ) → mark ≡ 1 → one ≡ cond (eqb mark 1) one other
-marked-one mark one other e = rw (eq-eqb mark 1 e)
-
-pub marked_other : (mark one other : ℕ) → (mark ≡ 1 → ⊥) → other ≡ cond (eqb mark 1) one other
-marked_other mark one other n = rw (ne_eqb mark 1 n)
-
-pub kind-marked : (mark key n : ℕ) → mark ≡ 1 → true ≡ (eqb mark 1 || ltb key n)
-kind-marked mark key n e = rw (eq-eqb mark 1 e)
-
-pub kind-other : (mark key n x : ℕ) → (mark ≡ 1 → ⊥) → eqb x 2 ≡ ltb key n → eqb x 2 ≡ (eqb mark 1 || ltb key n)
-kind-other mark key n x q e = rw (ne_eqb mark 1 q) e
 
 -- what an order of some of n records is to the passes
 pub ordered_ground : (order column keys hi : List ℕ) (n : ℕ) → Ordered order column keys n → n ≤ length column → n ≤ length hi → Ground order column hi n

@@ -5,11 +5,10 @@ use mathlib.Core.Bool.{Bool, true}
 use Prim.Native.Nat.{ℕ, zero, suc, ◌≤◌, ◌<◌}
 use native.Mathlib.Nat.{eq-or-lt_of_le}
 use native.Mathlib.Omega.{arith}
-use Rattle.meaning.specs.declared.Found.{Found}
-use Rattle.meaning.specs.declared.Found.TheVariants.{At, Nothing}
-use Rattle.meaning.specs.Walk.{count, first}
+use Rattle.std.specs.Prelude.{Some, None}
+use Rattle.meaning.specs.Walk.{count, first, Found}
 use Rattle.meaning.proofs.Basics.{went, le_or_lt, clear, never}
-use Rattle.meaning.proofs.Walks.{Passes, Lowest, None, first_found, first-nothing}
+use Rattle.meaning.proofs.Walks.{Passes, Lowest, NonePass, first_found, first-nothing}
 
 -- two of the numbers i, i + 1, .., n of them, pass
 pub record Two (f : ℕ → Bool) (i n : ℕ) : Type 0 where
@@ -45,7 +44,7 @@ module _ (f : ℕ → Bool) where
       (went (f i))
 
   -- where the count is not, none does
-  pub none : (i n : ℕ) → count f i n < 1 → None f i n
+  pub none : (i n : ℕ) → count f i n < 1 → NonePass f i n
   none i n h k a b = never (f k) (λ y. omega (arith, counted i n k (record { from = a; below = b; passes = y })))
 
   -- where none does, the count is not
@@ -84,8 +83,8 @@ module _ (f : ℕ → Bool) where
   lowest-of i n k s = go (first f i n) refl
     where
       go : (x : Found) → first f i n ≡ x → (j : ℕ) × Lowest f i n j
-      go (At j) e = (j, first_found f i n j e)
-      go Nothing e = absurd (clear s.passes (first-nothing f i n e k s.from s.below))
+      go (Some j) e = (j, first_found f i n j e)
+      go None e = absurd (clear s.passes (first-nothing f i n e k s.from s.below))
 
 -- what passes f passes g, so that no more pass f
 pub count_less : (f g : ℕ → Bool) → ((k : ℕ) → f k ≡ true → g k ≡ true) → (i n : ℕ) → count f i n ≤ count g i n

@@ -1,7 +1,9 @@
 -- A reference on days: the columns of its supplies, and what the finder promises of it.
 use Rattle.std.specs.Prelude.{◌≡◌, List, ℕ, ◌≤◌, ◌<◌, length}
 use Rattle.passes.specs.Passes.{at, On, Present}
+use Rattle.passes.specs.declared.Spans.{Spans}
 use Rattle.pieces.specs.Lone.{Alone}
+use Rattle.pieces.specs.declared.apart.Line.{Line}
 
 -- each of n records has the representative of its sole one, if that is one of the n
 pub record SoleKeys (n : ℕ) (sole reps keys : List ℕ) : Type 0 where
@@ -24,6 +26,10 @@ unfoldable pub ByAny : (order lo demand dhi from supply to : List ℕ) (n D : �
 ByAny order lo demand dhi from supply to n D =
     (x p : ℕ) → On order x → at demand x < n → Present lo dhi x p
     → ((y : ℕ) → y < n → at supply y ≡ at demand x → Present from to y p → ⊥) → D ≤ p
+
+-- the same of demands along a line and of what the n records supply
+abbrev pub AnyOf : Line → Spans → ℕ → ℕ → Type 0
+AnyOf d s n D = ByAny d.order.now d.spans.lo.now d.spans.key.now d.spans.hi.now s.lo.now s.key.now s.hi.now n D
 
 -- D is no later than any place at which a record in a row is present, and no record that has its representative is alone in one of the other rows
 unfoldable pub ByUnmatched : (order rows others reps lo hi : List ℕ) (n D : ℕ) → Type 0

@@ -2,69 +2,70 @@
 ghost use Rattle.std.specs.Prelude.{◌≤◌, length};
 ghost use Rattle.meaning.specs.Block.{limit};
 ghost use Rattle.parts.specs.Keyed.{Numbered};
-ghost use Rattle.parts.specs.Ground.{Ground};
+ghost use Rattle.parts.specs.Ground.{GroundOf};
 ghost use Rattle.parts.specs.Parts.{ByTwice, ByShared, ByUnheld, Small};
 
-use crate::keys;
+use crate::{Line, keys};
+use passes::Spans;
 
 // A place no later than any at which two records of one row are present; `own` has each record's own number. Cost: one pass along the order, a
 // store for each key.
-pub fn twice(
-    order: &[u16],
-    row: &[u16],
-    own: &[u16],
-    lo: &[u16],
-    hi: &[u16],
-    n: usize,
-    top: &mut [u16],
-    holder: &mut [u16],
-) -> u16
-    requires { Ground order.now lo.now hi.now n × (n ≤ length row.now) × Numbered n own.now × (n ≤ length top.old) × (n ≤ length holder.old) }
-    ensures { ByTwice order.now row.now lo.now hi.now n result }
+pub fn twice(line: Line, row: &[u16], own: &[u16], top: &mut [u16], holder: &mut [u16]) -> u16
+    requires { GroundOf line × (line.n ≤ length row.now) × Numbered line.n own.now × (line.n ≤ length top.old) × (line.n ≤ length holder.old) }
+    ensures { ByTwice line.entry.order.now row.now line.entry.lo.now line.entry.hi.now line.entry.n result }
 {
-    passes::clash(order, row, own, lo, hi, n, top, holder)
+    let spans = Spans {
+        key: row,
+        lo: line.lo,
+        hi: line.hi,
+    };
+    passes::clash(line.order, spans, own, line.n, top, holder)
 }
 
 // A place no later than any at which two records in rows, of one representative and of different owners, are present. Cost: a pass over
 // n records, one along the order, a store for each key.
 pub fn shared(
-    order: &[u16],
+    line: Line,
     row: &[u16],
     rep: &[u16],
     owner: &[u16],
-    lo: &[u16],
-    hi: &[u16],
-    n: usize,
     value: &mut [u16],
     top: &mut [u16],
     holder: &mut [u16],
 ) -> u16
-    requires { Ground order.now lo.now hi.now n × (n ≤ length row.now) × (n ≤ length owner.now) × Small n rep.now × (n ≤ length value.old) × (n ≤ length top.old) × (n ≤ length holder.old) }
-    ensures { ByShared order.now row.now rep.now owner.now lo.now hi.now n result }
+    requires { GroundOf line × (line.n ≤ length row.now) × (line.n ≤ length owner.now) × Small line.n rep.now × (line.n ≤ length value.old) × (line.n ≤ length top.old) × (line.n ≤ length holder.old) }
+    ensures { ByShared line.entry.order.now row.now rep.now owner.now line.entry.lo.now line.entry.hi.now line.entry.n result }
 {
-    keys::value_keys(row, rep, n, value);
-    passes::clash(order, value, owner, lo, hi, n, top, holder)
+    keys::value_keys(row, rep, line.n, value);
+    let spans = Spans {
+        key: value,
+        lo: line.lo,
+        hi: line.hi,
+    };
+    passes::clash(line.order, spans, owner, line.n, top, holder)
 }
 
 // A place no later than any at which a record in a row is present, and no record in one of the other rows that has its representative is.
 // Cost: two passes over n records, one along the order, four looks for each key.
 pub fn unheld(
-    order: &[u16],
+    line: Line,
     row: &[u16],
     other: &[u16],
     rep: &[u16],
-    lo: &[u16],
-    hi: &[u16],
-    n: usize,
     value: &mut [u16],
     held: &mut [u16],
     reach: &mut [u16],
     need: &mut [u16],
 ) -> u16
-    requires { (n ≤ limit) × Ground order.now lo.now hi.now n × (n ≤ length row.now) × (n ≤ length other.now) × Small n rep.now × (n ≤ length value.old) × (n ≤ length held.old) × (n ≤ length reach.old) × (n ≤ length need.old) }
-    ensures { ByUnheld order.now row.now other.now rep.now lo.now hi.now n result }
+    requires { (line.n ≤ limit) × GroundOf line × (line.n ≤ length row.now) × (line.n ≤ length other.now) × Small line.n rep.now × (line.n ≤ length value.old) × (line.n ≤ length held.old) × (line.n ≤ length reach.old) × (line.n ≤ length need.old) }
+    ensures { ByUnheld line.entry.order.now row.now other.now rep.now line.entry.lo.now line.entry.hi.now line.entry.n result }
 {
-    keys::value_keys(row, rep, n, value);
-    keys::value_keys(other, rep, n, held);
-    passes::gap(order, lo, value, hi, held, hi, n, reach, need)
+    keys::value_keys(row, rep, line.n, value);
+    keys::value_keys(other, rep, line.n, held);
+    let demands = Spans {
+        key: value,
+        lo: line.lo,
+        hi: line.hi,
+    };
+    passes::gap(line.order, demands, held, line.hi, line.n, reach, need)
 }

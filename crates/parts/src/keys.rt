@@ -1,5 +1,5 @@
 // Columns for the passes, put into lent ones, made of what a rule picks out: a record without a key has LIMIT.
-ghost use Rattle.std.specs.Prelude.{◌≡◌, cond, ◌<◌, ◌≤◌, eqb, ltb, length};
+ghost use Rattle.std.specs.Prelude.{◌≤◌, length};
 ghost use Rattle.meaning.specs.Block.{limit};
 ghost use Rattle.parts.specs.Keyed.{Numbered, DemandKeys, ValueKeys};
 
@@ -11,21 +11,9 @@ pub fn numbered(n: usize, out: &mut [u16])
     requires { (n ≤ limit) × (n ≤ length out.old) }
     ensures { Numbered n out.new }
 {
-    let mut i = 0;
-    while i < n {
+    for i in 0..n {
         out[i] = i as u16;
-        i += 1;
     }
-}
-
-// A class where the mark is 1, else LIMIT. Cost: one test.
-fn if_marked(mark: u8, class: u16) -> u16
-    ensures { result ≡ cond (eqb mark 1) class limit }
-{
-    if mark == 1 {
-        return class;
-    }
-    LIMIT as u16
 }
 
 // Each marked one of n records by its class. Cost: one pass.
@@ -33,21 +21,13 @@ pub fn demand_keys(marks: &[u8], class: &[u16], n: usize, out: &mut [u16])
     requires { (n ≤ length marks.now) × (n ≤ length class.now) × (n ≤ length out.old) }
     ensures { DemandKeys n marks.now class.now out.new }
 {
-    let mut i = 0;
-    while i < n {
-        out[i] = if_marked(marks[i], class[i]);
-        i += 1;
+    for i in 0..n {
+        out[i] = if marks[i] == 1 {
+            class[i]
+        } else {
+            LIMIT as u16
+        };
     }
-}
-
-// A representative where there is a row, else LIMIT. Cost: one test.
-fn if_in_row(row: u16, n: usize, rep: u16) -> u16
-    ensures { result ≡ cond (ltb row n) rep limit }
-{
-    if index(row) < n {
-        return rep;
-    }
-    LIMIT as u16
 }
 
 // Each of n records that is in a row by the representative of its value. Cost: one pass.
@@ -55,9 +35,11 @@ pub fn value_keys(row: &[u16], rep: &[u16], n: usize, out: &mut [u16])
     requires { (n ≤ length row.now) × (n ≤ length rep.now) × (n ≤ length out.old) }
     ensures { ValueKeys n row.now rep.now out.new }
 {
-    let mut i = 0;
-    while i < n {
-        out[i] = if_in_row(row[i], n, rep[i]);
-        i += 1;
+    for i in 0..n {
+        out[i] = if index(row[i]) < n {
+            rep[i]
+        } else {
+            LIMIT as u16
+        };
     }
 }

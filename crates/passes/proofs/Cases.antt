@@ -1,20 +1,12 @@
--- Two numbers: equal or not, the lesser one; and the number that a column has for a record of the order.
+-- What a test for a hit says; and the number that a column has for a record of the order.
 use mathlib.Core.Path.{◌≡◌, refl}
 use mathlib.Core.Bool.{Bool, true, false, not, ◌&&◌}
 use mathlib.Core.List.{List}
-use mathlib.Core.Logic.{◌⊎◌, inl, inr, ⊎_elim}
-use Prim.Native.Nat.{ℕ, ◌≤◌, ◌<◌}
+use Prim.Native.Nat.{ℕ, ◌<◌}
 use lib.Dec.{eqb, ltb}
 use lib.ListN.{length}
-use borrow.Author.Tests.{ltb-true, ltb-false, eqb-true, eqb-false, lt-ltb}
-use Rattle.meaning.proofs.Basics.{went}
+use borrow.Author.Tests.{eqb-true, lt-ltb}
 use Rattle.passes.specs.Passes.{at, Covers}
-
-pub same_or : (a b : ℕ) → (a ≡ b) ⊎ (a ≡ b → ⊥)
-same_or a b = ⊎_elim (λ e. inl (eqb-true a b e)) (λ e. inr (eqb-false a b e)) (went (eqb a b))
-
-pub less-or : (a b : ℕ) → (a < b) ⊎ (b ≤ a)
-less-or a b = ⊎_elim (λ e. inl (ltb-true a b e)) (λ e. inr (ltb-false a b e)) (went (ltb a b))
 
 -- the test for a hit failed: where the end lies behind, the owner is the same
 pub no_hit : (a t h o : ℕ) → (ltb a t && not (eqb h o)) ≡ false → a < t → h ≡ o

@@ -8,8 +8,9 @@ use native.Mathlib.Omega.{arith}
 use lib.Dec.{eqb, ltb}
 use lib.ListN.{length, set}
 use lib.Seq.{get_or-set_same, get_or-set_other}
+use Rattle.std.proofs.lemmas.Bool.{cases_eq, cases_lt}
 use Rattle.passes.specs.Passes.{at, Rising, ByClash}
-use Rattle.passes.proofs.Cases.{by, same_or, less-or, no_hit}
+use Rattle.passes.proofs.Cases.{by, no_hit}
 
 module _ (K O A B : ℕ → ℕ) (m room : ℕ) where
   -- the positions below i are done, and there was no hit
@@ -43,15 +44,15 @@ module _ (K O A B : ℕ → ℕ) (m room : ℕ) where
           reached = λ j k h q r n. ⊎_elim
               (λ (p : j ≡ i). absurd (none j p (rw q r) n))
               (λ p. s.reached j k (omega arith) q r n)
-              (same_or j i);
+              (cases_eq j i);
           owned = λ j k l h q r n o g t. ⊎_elim
               (λ (p : j ≡ i). absurd (none j p (rw q r) n))
               (λ p. s.owned j k l (omega arith) q r n o (omega arith) t)
-              (same_or j i);
+              (cases_eq j i);
           apart = λ j l g h q r o n t. ⊎_elim
               (λ (p : l ≡ i). absurd (none l p r t))
               (λ p. s.apart j l g (omega arith) q r o n t)
-              (same_or l i);
+              (cases_eq l i);
         }
 
     -- the record at i has the key k, and was no hit
@@ -61,14 +62,14 @@ module _ (K O A B : ℕ → ℕ) (m room : ℕ) where
       ended j h q n e = ⊎_elim
           (λ l. s.owned j k i h q kr e (λ p. n (p ∙ quiet l)) (omega arith) im)
           (λ l. let r = s.reached j k h q kr e in omega arith)
-          (less-or (A i) (at top k))
+          (cases_lt (A i) (at top k))
 
       apart_more : (j l : ℕ) → j < l → l < i + 1 → K j ≡ K l → K l < room → (O j ≡ O l → ⊥) → A j < B j → A l < B l → B j ≤ A l
       apart_more j l g h q t o n r = ⊎_elim
           (λ (p : l ≡ i).
           rw p (ended j (omega arith) (q ∙ ap K p ∙ sym ek) (λ e. o (e ∙ sym (ap O p))) n))
           (λ p. s.apart j l g (omega arith) q t o n r)
-          (same_or l i)
+          (cases_eq l i)
 
       -- the top stays
       pub swept_keep : A i < B i → B i ≤ at top k → Swept (i + 1) top holder
@@ -77,13 +78,13 @@ module _ (K O A B : ℕ → ℕ) (m room : ℕ) where
             reached = λ j c h q r n. ⊎_elim
                 (λ (p : j ≡ i). let f : c ≡ k = sym q ∙ ap K p ∙ sym ek in rw (p, f) t)
                 (λ p. s.reached j c (omega arith) q r n)
-                (same_or j i);
+                (cases_eq j i);
             owned = λ j c l h q w n o g r. ⊎_elim
                 (λ (p : j ≡ i).
                 let f : c ≡ k = sym q ∙ ap K p ∙ sym ek in
                 absurd (o (ap O p ∙ sym (quiet (omega arith)) ∙ ap (at holder) (sym f))))
                 (λ p. s.owned j c l (omega arith) q w n o (omega arith) r)
-                (same_or j i);
+                (cases_eq j i);
             apart = apart_more;
           }
 
@@ -99,12 +100,12 @@ module _ (K O A B : ℕ → ℕ) (m room : ℕ) where
                 (⊎_elim
                 (λ (p : j ≡ i). let z : B j ≡ B i = ap B p in omega arith)
                 (λ p. let z = s.reached j k (omega arith) (q ∙ f) kr n in omega arith)
-                (same_or j i)))
+                (cases_eq j i)))
                 (λ f.
                 let p : j ≡ i → ⊥ = λ w. f (sym q ∙ ap K w ∙ sym ek) in
                 let z = s.reached j c (omega arith) q w n in
                 rw (get_or-set_other top k c (B i) 0 f) z)
-                (same_or c k);
+                (cases_eq c k);
             owned = λ j c l h q w n o g r. ⊎_elim
                 (λ (f : c ≡ k).
                 let other : O j ≡ O i → ⊥ = λ w. o (w ∙ sym new-holder ∙ ap (at (set holder k (O i))) (sym f)) in
@@ -115,7 +116,7 @@ module _ (K O A B : ℕ → ℕ) (m room : ℕ) where
                 (λ f.
                 let p : j ≡ i → ⊥ = λ w. f (sym q ∙ ap K w ∙ sym ek) in
                 s.owned j c l (omega arith) q w n (λ w. o (w ∙ sym (get_or-set_other holder k c (O i) 0 f))) (omega arith) r)
-                (same_or c k);
+                (cases_eq c k);
             apart = apart_more;
           }
 
@@ -127,17 +128,17 @@ module _ (K O A B : ℕ → ℕ) (m room : ℕ) where
         let n : l ≡ j → ⊥ = λ w. o (ap O (sym w)) in
         let z = s.apart l j (omega arith) h (sym q) t (λ w. o (sym w)) (omega arith) (omega arith) in
         omega arith)
-        (less-or j l)
+        (cases_lt j l)
 
     -- so of two that clash one is to come, and begins no earlier than the record at i
     pub swept_hit : (j l p : ℕ) → j < m → l < m → K j < room → K j ≡ K l → (O j ≡ O l → ⊥) → A j ≤ p → p < B j → A l ≤ p → p < B l → A i ≤ p
     swept_hit j l p jm lm t q o a b c d = ⊎_elim
-        (λ h. ⊎_elim (λ g. absurd (swept_clear j l p h g t q o a b c d)) (λ g. later l lm g c) (less-or l i))
+        (λ h. ⊎_elim (λ g. absurd (swept_clear j l p h g t q o a b c d)) (λ g. later l lm g c) (cases_lt l i))
         (λ h. later j jm h a)
-        (less-or j i)
+        (cases_lt j i)
       where
         later : (l : ℕ) → l < m → i ≤ l → A l ≤ p → A i ≤ p
-        later l lm g c = ⊎_elim (λ (e : l ≡ i). rw e at c) (λ e. let z = up i l (omega arith) lm in omega arith) (same_or l i)
+        later l lm g c = ⊎_elim (λ (e : l ≡ i). rw e at c) (λ e. let z = up i l (omega arith) lm in omega arith) (cases_eq l i)
 
 -- what holds of any two positions holds of any two records
 module _ (order key owner lo hi : List ℕ) (room D : ℕ) where

@@ -1,22 +1,22 @@
--- How the clearing of a scratch array goes on.
-use mathlib.Core.Path.{◌≡◌}
-use mathlib.Core.List.{List}
-use mathlib.Core.Logic.{⊎_elim}
-use Prim.Native.Nat.{ℕ, ◌+◌, ◌<◌}
+-- A scratch array whose first entries were filled with 0, or that is all 0.
+use mathlib.Core.Path.{◌≡◌, ◌∙◌}
+use mathlib.Core.List.{List, ◌++◌}
+use Prim.Native.Nat.{ℕ, ◌≤◌}
 use native.Mathlib.Omega.{arith}
-use lib.ListN.{length, set}
-use lib.Seq.{get_or-set_same, get_or-set_other}
+use lib.ListN.{length, replicate, get_or-append}
+use Rattle.std.proofs.lemmas.List.{length-replicate, get_or-replicate}
 use Rattle.passes.specs.Given.{Cleared}
-use Rattle.passes.proofs.Cases.{same_or}
 
-pub cleared_none : (s : List ℕ) → Cleared s 0
-cleared_none s = record { zeros = λ c h. absurd (omega arith) }
-
-pub cleared_more : (s : List ℕ) (i : ℕ) → i < length s → Cleared s i → Cleared (set s i 0) (i + 1)
-cleared_more s i l z =
+-- whatever comes after them
+pub cleared : (n : ℕ) (filled rest : List ℕ) → filled ≡ replicate n 0 → Cleared (filled ++ rest) n
+cleared n filled rest e =
     record {
-      zeros = λ c h. ⊎_elim
-          (λ (e : c ≡ i). rw e (get_or-set_same s i 0 0 l))
-          (λ e. rw (get_or-set_other s i c 0 0 e) (z.zeros c (omega arith)))
-          (same_or c i);
+      zeros = λ c h.
+          let zeros : List ℕ = replicate n 0 in
+          let l : length zeros ≡ n = length-replicate n 0 in
+          rw e (get_or-append zeros rest 0 c (omega arith) ∙ get_or-replicate n c 0 0 h);
     }
+
+-- an array of zeros
+pub blank : (m n : ℕ) → n ≤ m → Cleared (replicate m 0) n
+blank m n h = record { zeros = λ c l. get_or-replicate m c 0 0 (omega arith) }

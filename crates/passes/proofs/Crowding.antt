@@ -10,11 +10,11 @@ use lib.Dec.{eqb}
 use lib.ListN.{length, get_or, set}
 use lib.Seq.{get_or-set_same, get_or-set_other}
 use borrow.Author.Tests.{eq-eqb, ne_eqb}
+use Rattle.std.proofs.lemmas.Bool.{cases_eq}
 use Rattle.meaning.specs.Walk.{count}
 use Rattle.meaning.proofs.Basics.{went}
 use Rattle.passes.specs.Given.{Cleared}
 use Rattle.passes.specs.Passes.{at}
-use Rattle.passes.proofs.Cases.{same_or}
 
 -- one more in either case
 one_more : (b : Bool) (n : ℕ) → cond b (suc (suc n)) (suc n) ≡ suc (cond b (suc n) n)
@@ -23,7 +23,7 @@ one_more false n = refl
 
 module _ (f : ℕ → Bool) where
   -- a walk counts no more than it passes over
-  count_most : (i n : ℕ) → count f i n ≤ n
+  pub count_most : (i n : ℕ) → count f i n ≤ n
   unfolding count
   count_most i zero = omega arith
   count_most i (suc n) = ⊎_elim
@@ -86,11 +86,11 @@ module _ (key : List ℕ) (room most : ℕ) where
               (λ f.
               let e : eqb (get_or key i 0) j ≡ false = ne_eqb (get_or key i 0) j (λ e. f (sym e ∙ sym ek)) in
               rw (get_or-set_other tally k j c 0 f, add-one i, count-off (λ x. eqb (get_or key x 0) j) 0 i i last e) (s.tallied j h))
-              (same_or j k);
+              (cases_eq j k);
           few = λ j h. ⊎_elim
               (λ (f : j ≡ k). rw (f, new) cm)
               (λ f. rw (get_or-set_other tally k j c 0 f) (s.few j h))
-              (same_or j k);
+              (cases_eq j k);
         }
 
     -- every record is counted

@@ -2,14 +2,15 @@
 use mathlib.Core.Path.{◌≡◌, refl, sym, ◌∙◌, ap}
 use mathlib.Core.Logic.{⊎_elim}
 use mathlib.Core.List.{List}
-use Prim.Native.Nat.{ℕ, ◌+◌, ◌≤◌, ◌<◌}
+use Prim.Native.Nat.{ℕ, ◌+◌, ◌≤◌, ◌<◌, max}
 use native.Mathlib.Omega.{arith}
 use lib.ListN.{length, set}
 use lib.Seq.{get_or-set_same, get_or-set_other}
+use Rattle.std.proofs.lemmas.Bool.{cases_eq, cases_lt}
 use Rattle.passes.specs.Passes.{at, Rising, ByGap}
 use Rattle.passes.specs.Given.{Cleared}
-use Rattle.passes.specs.Gaps.{Raised, Later, Missed, Demanded, Supplied, Unmet}
-use Rattle.passes.proofs.Cases.{by, same_or, less-or}
+use Rattle.passes.specs.Gaps.{Raised, Missed, Demanded, Supplied, Unmet}
+use Rattle.passes.proofs.Cases.{by}
 
 -- no supply of the key k is present at p
 unfoldable pub Free : (order lo supply shi : List ℕ) → ℕ → ℕ → Type 0
@@ -45,7 +46,7 @@ module _ (order lo demand dhi supply shi : List ℕ) (room : ℕ) where
       let back : (k p : ℕ) → p < at reach' k → ((at need k ≤ p) × (p < by order lo i) → ⊥) → p < at reach k
       = λ k p h no. ⊎_elim (λ l. l)
       (λ l. let w = taken.passed k p l h in absurd (no (w.0, omega (arith, w.1))))
-      (less-or p (at reach k)) in
+      (cases_lt p (at reach k)) in
       record {
         needed = λ u k h q kr l. ⊎_elim
             (λ (w : u ≡ i).
@@ -55,7 +56,7 @@ module _ (order lo demand dhi supply shi : List ℕ) (room : ℕ) where
             let y : at dhi x ≤ at need' k = rw e at z in
             rw w (omega arith))
             (λ w. let z = m.needed u k (omega arith) q kr l in omega (arith, taken.kept k))
-            (same_or u i);
+            (cases_eq u i);
         told = λ u k p h q kr a b l free. ⊎_elim
             (λ (w : u ≡ i).
             let a' : by order lo i ≤ p = rw w at a in
@@ -63,7 +64,7 @@ module _ (order lo demand dhi supply shi : List ℕ) (room : ℕ) where
             (λ w.
             let z = m.needed u k (omega arith) q kr (omega arith) in
             m.told u k p (omega arith) q kr a b (back k p l (λ t. omega (arith, t.0))) free)
-            (same_or u i);
+            (cases_eq u i);
         ahead = λ u k p h um kr a l free.
             let up = rising.up i u (omega arith) um in
             m.ahead u k p (omega arith) um kr a (back k p l (λ t. omega (arith, t.1, up))) free;
@@ -84,7 +85,7 @@ module _ (order lo demand dhi supply shi : List ℕ) (room : ℕ) where
       let w = taken.passed k p l h in
       ⊎_elim (λ g. g)
       (λ g. absurd (free i im (sym key-i ∙ sym w.0) (omega arith) (omega (arith, w.1))))
-      (less-or p (by order lo i)) in
+      (cases_lt p (by order lo i)) in
       record {
         needed = m.needed;
         told = λ u k p h q kr a b l free. ⊎_elim
@@ -94,14 +95,14 @@ module _ (order lo demand dhi supply shi : List ℕ) (room : ℕ) where
             let z = m.needed u k h q kr (omega arith) in
             let t = taken.missed k p g l (omega arith) (omega arith) in
             omega arith)
-            (less-or p (at reach k));
+            (cases_lt p (at reach k));
         ahead = λ u k p h um kr a l free. ⊎_elim
             (λ g. m.ahead u k p h um kr a g free)
             (λ g.
             let w = before k p l g free in
             let up = rising.up i u (omega arith) um in
             omega arith)
-            (less-or p (at reach k));
+            (cases_lt p (at reach k));
       }
 
   -- all demands are met
@@ -124,32 +125,32 @@ module _ (order lo demand dhi supply shi : List ℕ) (room : ℕ) where
       let z = m.needed u k (omega arith) q kx (omega arith) in
       let w = unmet.each k kx (omega arith) in
       omega arith)
-      (less-or p (at reach k))
+      (cases_lt p (at reach k))
 
 -- a demand of a key below room that is ever present is taken
 pub demand-taken : (reach need : List ℕ) (k key : ℕ) → k ≡ key → k < length reach → k < length need → (a b room r n : ℕ) →
-    Raised (at need k) (at reach k) a r → Later (at need k) b n → Demanded key a b room reach need (set reach k r) (set need k n)
+    Raised (at need k) (at reach k) a r → n ≡ max (at need k) b → Demanded key a b room reach need (set reach k r) (set need k n)
 demand-taken reach need k key ek kr kn a b room r n raised later =
     let new-reach = get_or-set_same reach k r 0 kr in
     let new-need = get_or-set_same need k n 0 kn in
     record {
       kept = λ c. ⊎_elim
-          (λ (f : c ≡ k). rw (f, new-need) later.first)
+          (λ (f : c ≡ k). rw (f, new-need) (omega arith))
           (λ f. rw (get_or-set_other need k c n 0 f) (omega arith))
-          (same_or c k);
-      risen = λ h l. rw (← ek, new-need) later.second;
+          (cases_eq c k);
+      risen = λ h l. rw (← ek, new-need) (omega arith);
       passed = λ c p l h. ⊎_elim
           (λ (f : c ≡ k).
           let l' : at reach k ≤ p = rw f at l in
           let h' : p < r = rw (f, new-reach) at h in
           rw f (raised.passed p l' h'))
           (λ f. let h' : p < at reach c = rw (get_or-set_other reach k c r 0 f) at h in absurd (omega arith))
-          (same_or c k);
+          (cases_eq c k);
     }
 
 -- a supply of a key below room that is ever present is taken
 pub supply-taken : (reach need : List ℕ) (k key : ℕ) → k ≡ key → k < length reach → (a b D s r : ℕ) →
-    Later (at reach k) b s → Missed (at reach k) (at need k) a D r → Supplied key a b reach need D (set reach k s) r
+    s ≡ max (at reach k) b → Missed (at reach k) (at need k) a D r → Supplied key a b reach need D (set reach k s) r
 supply-taken reach need k key ek kr a b D s r later missed =
     let new-reach = get_or-set_same reach k s 0 kr in
     -- only the reach of the key goes up, to the end of the supply
@@ -158,9 +159,9 @@ supply-taken reach need k key ek kr a b D s r later missed =
     (λ (f : c ≡ k).
     let l' : at reach k ≤ p = rw f at l in
     let h' : p < s = rw (f, new-reach) at h in
-    (f, ⊎_elim (λ g. g) (λ g. let z = later.least p l' g in absurd (omega arith)) (less-or p b)))
+    (f, ⊎_elim (λ g. g) (λ g. absurd (omega arith)) (cases_lt p b)))
     (λ f. let h' : p < at reach c = rw (get_or-set_other reach k c s 0 f) at h in absurd (omega arith))
-    (same_or c k) in
+    (cases_eq c k) in
     record {
       sooner = missed.sooner;
       passed = λ c p l h. let w = passed c p l h in (w.0 ∙ ek, w.1);
@@ -185,5 +186,5 @@ unmet_more reach need D k r r' s fits missed =
           let l' : at reach k < at need k = rw e at l in
           rw e (missed.missed (omega arith) l'))
           (λ e. let z = s.each c (omega arith) l in omega (arith, missed.sooner))
-          (same_or c k);
+          (cases_eq c k);
     }

@@ -5,8 +5,8 @@ use mathlib.Core.Logic.{⊎_elim}
 use Prim.Native.Nat.{ℕ, ◌+◌, ◌≤◌, ◌<◌}
 use native.Mathlib.Omega.{arith}
 use lib.ListN.{length}
+use Rattle.std.proofs.lemmas.Bool.{cases_eq, cases_lt}
 use Rattle.passes.specs.Passes.{at, Rising, ByLeast}
-use Rattle.passes.proofs.Cases.{same_or, less-or}
 
 -- the records with a key at positions below i are never present
 pub record Never (order key lo hi : List ℕ) (room i : ℕ) : Type 0 where
@@ -23,7 +23,7 @@ module _ (order key lo hi : List ℕ) (room : ℕ) where
           never = λ j l. ⊎_elim
               (λ (e : j ≡ i). rw (e, ← ex) h)
               (λ e. s.never j (omega arith))
-              (same_or j i);
+              (cases_eq j i);
         }
 
     pub never_end : length order ≤ i → (D : ℕ) → ByLeast order key lo hi room D
@@ -47,5 +47,5 @@ module _ (order key lo hi : List ℕ) (room : ℕ) where
         let u : at lo (at order i) ≤ at lo x = rw e at (rising.up i on.place (omega arith) on.below) in
         let v : at lo y ≤ at lo x = rw ey u in
         omega (arith, h.from))
-        (same_or on.place i))
-        (less-or on.place i)
+        (cases_eq on.place i))
+        (cases_lt on.place i)

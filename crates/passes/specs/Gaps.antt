@@ -6,12 +6,6 @@ use Rattle.passes.specs.Passes.{at}
 pub record Raised (need reach a r : ℕ) : Type 0 where
   pub passed : (p : ℕ) → reach ≤ p → p < r → (need ≤ p) × (p < a)
 
--- the later one of two
-pub record Later (x y r : ℕ) : Type 0 where
-  pub first : x ≤ r
-  pub second : y ≤ r
-  pub least : (p : ℕ) → x ≤ p → y ≤ p → r ≤ p
-
 -- the answer D once a supply begins at a: the reach, where a demand waits there
 pub record Missed (reach need a D r : ℕ) : Type 0 where
   pub sooner : r ≤ D

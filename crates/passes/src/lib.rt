@@ -6,39 +6,33 @@ ghost use Rattle.std.specs.Prelude.{◌≡◌, false, ℕ, ◌≤◌, ◌<◌, e
 ghost use Rattle.meaning.specs.Block.{limit};
 ghost use Rattle.meaning.specs.Walk.{count};
 ghost use Rattle.passes.specs.Passes.{at, ByLeast, ByClash, ByGap};
-ghost use Rattle.passes.specs.Given.{GivenLeast, GivenClash, GivenGap, Cleared};
-ghost use Rattle.passes.specs.Gaps.{Raised, Later, Missed, Demanded, Supplied, Unmet};
+ghost use Rattle.passes.specs.Given.{GivenLeast, GivenClash, GivenGap};
+ghost use Rattle.passes.specs.Gaps.{Raised, Missed, Demanded, Supplied, Unmet};
 
 use numbers::index;
 
 // No place: above every place of a column.
 pub const NEVER: u16 = 65535;
 
-// Clears the first n entries. Cost: one store for each.
-pub fn clear(s: &mut [u16], n: usize)
-    requires { n ≤ length s.old }
-    ensures { Cleared s.new n }
-{
-    let mut i = 0;
-    while i < n {
-        s[i] = 0;
-        i += 1;
-    }
+// Of records the key of each, and the places from lo up to, not including, hi at which it is present.
+#[derive(Clone, Copy)]
+pub struct Spans<'a> {
+    pub key: &'a [u16],
+    pub lo: &'a [u16],
+    pub hi: &'a [u16],
 }
 
 // A place no later than any at which a record with a key is present; NEVER where there is none. Cost: at most four looks for each record
 // up to the first that is ever present.
-pub fn least(order: &[u16], key: &[u16], lo: &[u16], hi: &[u16], room: usize) -> u16
-    requires { GivenLeast order.now key.now lo.now hi.now }
-    ensures { ByLeast order.now key.now lo.now hi.now room result }
+pub fn least(order: &[u16], spans: Spans, room: usize) -> u16
+    requires { GivenLeast order.now spans.key.now spans.lo.now spans.hi.now }
+    ensures { ByLeast order.now spans.entry.key.now spans.entry.lo.now spans.entry.hi.now room result }
 {
-    let mut i = 0;
-    while i < order.len() {
-        let x = index(order[i]);
-        i += 1;
-        if index(key[x]) < room {
-            let a = lo[x];
-            if a < hi[x] {
+    for &number in order {
+        let x = index(number);
+        if index(spans.key[x]) < room {
+            let a = spans.lo[x];
+            if a < spans.hi[x] {
                 return a;
             }
         }
@@ -50,26 +44,22 @@ pub fn least(order: &[u16], key: &[u16], lo: &[u16], hi: &[u16], room: usize) ->
 // is the latest end met, and `holder` the owner of the record that has it. Cost: at most nine looks for each record, and one for each key.
 pub fn clash(
     order: &[u16],
-    key: &[u16],
+    spans: Spans,
     owner: &[u16],
-    lo: &[u16],
-    hi: &[u16],
     room: usize,
     top: &mut [u16],
     holder: &mut [u16],
 ) -> u16
-    requires { GivenClash order.now key.now owner.now lo.now hi.now room top.old holder.old }
-    ensures { ByClash order.now key.now owner.now lo.now hi.now room result }
+    requires { GivenClash order.now spans.key.now owner.now spans.lo.now spans.hi.now room top.old holder.old }
+    ensures { ByClash order.now spans.entry.key.now owner.now spans.entry.lo.now spans.entry.hi.now room result }
 {
-    clear(top, room);
-    let mut i = 0;
-    while i < order.len() {
-        let x = index(order[i]);
-        let k = index(key[x]);
-        i += 1;
+    top[..room].fill(0);
+    for &number in order {
+        let x = index(number);
+        let k = index(spans.key[x]);
         if k < room {
-            let a = lo[x];
-            let b = hi[x];
+            let a = spans.lo[x];
+            let b = spans.hi[x];
             if a < b {
                 let o = owner[x];
                 let t = top[k];
@@ -86,16 +76,6 @@ pub fn clash(
     NEVER
 }
 
-// The later of two places.
-pub fn later(x: u16, y: u16) -> u16
-    ensures { Later x y result }
-{
-    if x < y {
-        return y;
-    }
-    x
-}
-
 // The reach of a key once a demand begins at a: from there on, where no demand waits.
 fn raised(need: u16, reach: u16, a: u16) -> u16
     ensures { Raised need reach a result }
@@ -103,26 +83,17 @@ fn raised(need: u16, reach: u16, a: u16) -> u16
     if reach < need {
         return reach;
     }
-    if reach < a {
-        return a;
-    }
-    reach
+    reach.max(a)
 }
 
 // The answer once a supply begins at a: the reach of its key, where a demand waits there and the supply comes too late.
 fn missed(reach: u16, need: u16, a: u16, d: u16) -> u16
     ensures { Missed reach need a d result }
 {
-    if a <= reach {
+    if (a <= reach) | (need <= reach) {
         return d;
     }
-    if need <= reach {
-        return d;
-    }
-    if d < reach {
-        return d;
-    }
-    reach
+    d.min(reach)
 }
 
 // Takes record x, which begins at a, as a demand, if its key is below `room` and it is ever present. Cost: at most six looks.
@@ -148,7 +119,7 @@ pub fn take_demand(
     }
     let n = need[k];
     reach[k] = raised(n, reach[k], a);
-    need[k] = later(n, b);
+    need[k] = n.max(b);
 }
 
 // Takes record x, which begins at a, as a supply, if its key is below `room` and it is ever present; the answer, of which d is what it was
@@ -175,7 +146,7 @@ pub fn take_supply(
         return d;
     }
     let r = reach[k];
-    reach[k] = later(r, b);
+    reach[k] = r.max(b);
     missed(r, need[k], a, d)
 }
 
@@ -185,40 +156,35 @@ pub fn unmet(reach: &[u16], need: &[u16], room: usize, d: u16) -> u16
     ensures { Unmet reach.now need.now d room result }
 {
     let mut r = d;
-    let mut k = 0;
-    while k < room {
+    for k in 0..room {
         r = missed(reach[k], need[k], NEVER, r);
-        k += 1;
     }
     r
 }
 
-// A place no later than any at which a demand is present, and no supply of its key is; NEVER where there is none. A record is a demand from
-// lo up to `dhi`, and a supply from lo up to `shi`, each by a key of its own. By key, `reach` is the place up to which the demands met are
-// supplied, or the answer tells, and `need` the latest end of a demand met. Cost: at most thirteen looks for each record, and four for each key.
+// A place no later than any at which a demand is present, and no supply of its key is; NEVER where there is none. A record is a demand as
+// `demands` says, and a supply from its lo up to `shi`, by a key of its own, which is in `supply`. By key, `reach` is the place up to which the
+// demands met are supplied, or the answer tells, and `need` the latest end of a demand met. Cost: at most fourteen looks for each record, and four
+// for each key.
 pub fn gap(
     order: &[u16],
-    lo: &[u16],
-    demand: &[u16],
-    dhi: &[u16],
+    demands: Spans,
     supply: &[u16],
     shi: &[u16],
     room: usize,
     reach: &mut [u16],
     need: &mut [u16],
 ) -> u16
-    requires { GivenGap order.now lo.now demand.now dhi.now supply.now shi.now room reach.old need.old }
-    ensures { ByGap order.now lo.now demand.now dhi.now supply.now shi.now room result }
+    requires { GivenGap order.now demands.lo.now demands.key.now demands.hi.now supply.now shi.now room reach.old need.old }
+    ensures { ByGap order.now demands.entry.lo.now demands.entry.key.now demands.entry.hi.now supply.now shi.now room result }
 {
-    clear(reach, room);
-    clear(need, room);
+    reach[..room].fill(0);
+    need[..room].fill(0);
     let mut d = NEVER;
-    let mut i = 0;
-    while i < order.len() {
-        let x = index(order[i]);
-        let a = lo[x];
-        i += 1;
-        take_demand(x, a, demand, dhi, room, reach, need);
+    for &number in order {
+        let x = index(number);
+        let a = demands.lo[x];
+        take_demand(x, a, demands.key, demands.hi, room, reach, need);
         d = take_supply(x, a, supply, shi, room, reach, need, d);
     }
     unmet(reach, need, room, d)
@@ -230,11 +196,9 @@ pub fn crowded(key: &[u16], n: usize, room: usize, most: usize, tally: &mut [u16
     requires { (room ≤ length tally.old) × (n ≤ length key.now) × (n ≤ limit) }
     ensures { result ≡ false → (k : ℕ) → k < room → count (λ x. eqb (get_or key.now x 0) k) 0 n ≤ most }
 {
-    clear(tally, room);
-    let mut i = 0;
-    while i < n {
-        let k = index(key[i]);
-        i += 1;
+    tally[..room].fill(0);
+    for &number in &key[..n] {
+        let k = index(number);
         if k < room {
             let c = tally[k];
             if most <= index(c) {

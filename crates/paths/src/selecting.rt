@@ -3,16 +3,16 @@ ghost use Rattle.std.specs.Prelude.{◌≡◌, ◌≤◌, ◌<◌, eqb, length};
 ghost use Rattle.meaning.specs.Document.{Doc};
 ghost use Rattle.meaning.specs.declared.Rule.{Rule};
 ghost use Rattle.meaning.specs.Select.{name_fits, path_to, selected};
-ghost use Rattle.columns.specs.Lent.{Lends, Tree};
-ghost use Rattle.columns.specs.Judgeable.{Judgeable};
+ghost use Rattle.columns.specs.Lent.{Lends, TreeOf, HasTree};
 ghost use Rattle.marks.specs.Marks.{Marks};
 ghost use Rattle.paths.specs.Standing.{Stands};
 
-use columns::LIMIT;
+use columns::{LIMIT, Records};
 use meaning::Rule;
 use numbers::index;
 
 // Whether a name of a path fits a name: 65,535 fits any. Cost: two tests.
+// `prepare::select` has the same: the plain engine may share nothing with the quick one (tests/apart)
 fn name_fits(wanted: u16, name: u16) -> bool
     ensures { result ≡ name_fits wanted name }
 {
@@ -40,37 +40,25 @@ fn path_fits(name: &[u16], parent: &[u16], path: &[u16; 8], k: usize, v: usize) 
 }
 
 // The mark of record v: 1 where it is a version and the whole path fits the names down to it. Cost: one look, and at most eight calls.
-fn selected_mark(
-    kind: &[u8],
-    name: &[u16],
-    parent: &[u16],
-    path: &[u16; 8],
-    steps: u8,
-    v: usize,
-) -> u8
-    requires { (steps ≤ 8) × (v < length kind.now) × ((doc : Doc) × Tree doc kind.now name.now parent.now × Judgeable doc) }
-    ensures { (doc : Doc) (r : Rule) → Tree doc kind.now name.now parent.now → r.path ≡ path.now → r.steps ≡ steps → eqb result 1 ≡ selected doc r v }
+fn selected_mark(records: Records<'_>, path: &[u16; 8], steps: u8, v: usize) -> u8
+    requires { (steps ≤ 8) × (v < length records.kind.now) × HasTree records }
+    ensures { (doc : Doc) (r : Rule) → TreeOf doc records.entry → r.path ≡ path.now → r.steps ≡ steps → eqb result 1 ≡ selected doc r v }
 {
-    if kind[v] != 2 {
+    if records.kind[v] != 2 {
         return 0;
     }
-    if path_fits(name, parent, path, steps as usize, v) {
-        return 1;
-    }
-    0
+    u8::from(path_fits(records.name, records.parent, path, usize::from(steps), v))
 }
 
 // A mark on each selected version. Cost: for each record at most eight calls.
-pub fn mark_selected(kind: &[u8], name: &[u16], parent: &[u16], rule: Rule) -> [u8; LIMIT]
-    requires { (rule.steps ≤ 8) × ((doc : Doc) × Tree doc kind.now name.now parent.now × Judgeable doc) }
-    ensures { (doc : Doc) → Tree doc kind.now name.now parent.now → Marks (selected doc rule) doc.size result }
+pub fn mark_selected(records: Records<'_>, rule: Rule) -> [u8; LIMIT]
+    requires { (rule.steps ≤ 8) × HasTree records }
+    ensures { (doc : Doc) → TreeOf doc records.entry → Marks (selected doc rule) doc.size result }
 {
     let path = rule.path;
     let mut marks = [0u8; LIMIT];
-    let mut i = 0;
-    while i < kind.len() {
-        marks[i] = selected_mark(kind, name, parent, &path, rule.steps, i);
-        i += 1;
+    for i in 0..records.kind.len() {
+        marks[i] = selected_mark(records, &path, rule.steps, i);
     }
     marks
 }

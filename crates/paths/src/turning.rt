@@ -16,12 +16,10 @@ pub fn is_change(read: &[u8], begin: &[u16], end: &[u16], first: u16, d: u16) ->
     if first == d {
         return true;
     }
-    let mut i = 0;
-    while i < begin.len() {
+    for i in 0..begin.len() {
         if (read[i] == 1) & ((begin[i] == d) | (end[i] == d)) {
             return true;
         }
-        i += 1;
     }
     false
 }

@@ -1,17 +1,16 @@
 -- The part of an order that passes a test is picked entry by entry, and is an order of what passes.
 use mathlib.Core.Path.{◌≡◌, refl, sym, ap, ◌∙◌}
 use mathlib.Core.Logic.{⊎_elim}
-use mathlib.Core.Bool.{Bool, true, cond, ◌&&◌}
+use mathlib.Core.Bool.{Bool, true, ◌&&◌}
 use mathlib.Core.List.{List}
 use Prim.Native.Nat.{ℕ, ◌+◌, ◌-◌, ◌≤◌, ◌<◌}
 use native.Mathlib.Numerals.{add-one}
 use native.Mathlib.Nat.{eq-or-lt_of_le}
 use native.Mathlib.Omega.{arith}
-use lib.Dec.{eqb}
 use lib.ListN.{length, get_or, set, take, length-take}
 use lib.Seq.{get_or-set_same, get_or-set_other, get_or-take}
+use Rattle.std.specs.Int.{from_bool}
 use Rattle.meaning.proofs.Basics.{went, le_or_lt, and_l, and_r, both}
-use Rattle.marks.specs.Marks.{marked}
 use Rattle.orders.specs.Order.{InOrder}
 use Rattle.passes.specs.Passes.{at}
 use Rattle.picking.specs.Picked.{passing, Picked}
@@ -24,7 +23,7 @@ module _ (test : ℕ → Bool) (order : List ℕ) where
   picked_none part = record { many = refl; each = λ j h e. absurd (omega arith) }
 
   -- the next entry is stored behind what was picked, and counts if it passes
-  pub picked_next : (i : ℕ) (part : List ℕ) (k w : ℕ) → Picked test order i part k → k < length part → w ≡ cond (test (at order i)) 1 0
+  pub picked_next : (i : ℕ) (part : List ℕ) (k w : ℕ) → Picked test order i part k → k < length part → w ≡ from_bool (test (at order i))
       → Picked test order (i + 1) (set part k (at order i)) (k + w)
   picked_next i part k w p h e =
       let old : (j : ℕ) → j < i → test (at order j) ≡ true → at (set part k (at order i)) (passing test order j) ≡ at order j =
@@ -42,10 +41,6 @@ module _ (test : ℕ → Bool) (order : List ℕ) where
   -- no more are picked than there are
   pub picked_most : {i : ℕ} {part : List ℕ} {k : ℕ} → Picked test order i part k → k ≤ i
   picked_most {i} p = omega (arith, p.many, passing-most test order i)
-
--- a mark counts the record that it is of
-pub weight_is : (marks : List ℕ) (x i : ℕ) (order : List ℕ) (w : ℕ) → x ≡ at order i → w ≡ cond (eqb (at marks x) 1) 1 0 → w ≡ cond (marked marks (at order i)) 1 0
-weight_is marks x i order w p e = rw (← p) e
 
 -- the front of an order that has m entries is an order by itself
 pub cut : (member : ℕ → Bool) (column order : List ℕ) (m : ℕ) → InOrder member column order m → InOrder member column (take (m - 0) order) (length (take (m - 0) order))

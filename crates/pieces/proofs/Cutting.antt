@@ -2,12 +2,13 @@
 use mathlib.Core.Path.{◌≡◌, sym, ◌∙◌, ap}
 use mathlib.Core.List.{List}
 use mathlib.Core.Logic.{⊎_elim}
-use Prim.Native.Nat.{ℕ, ◌+◌, ◌≤◌, ◌<◌}
+use Prim.Native.Nat.{ℕ, ◌+◌, ◌≤◌, ◌<◌, min}
 use native.Mathlib.Omega.{arith}
 use lib.ListN.{length, set}
 use lib.Seq.{get_or-set_same, get_or-set_other}
+use Rattle.std.proofs.lemmas.Bool.{cases_eq}
 use Rattle.passes.specs.Passes.{at, Rising}
-use Rattle.passes.proofs.Cases.{by, same_or}
+use Rattle.passes.proofs.Cases.{by}
 use Rattle.pieces.specs.Steps.{Cut}
 
 -- the records from position i on are done; `next` has by row a begin that is no later than theirs
@@ -36,15 +37,15 @@ module _ (order key lo : List ℕ) (n : ℕ) (to₀ : List ℕ) where
           first = λ v k h m q kn. ⊎_elim
               (λ (w : v ≡ i). let e = key-at w in absurd (omega arith))
               (λ w. s.first v k (omega arith) m q kn)
-              (same_or v i);
+              (cases_eq v i);
           sooner = s.sooner;
           ends = λ u v h g m kn q. ⊎_elim
               (λ (w : u ≡ i). let e = key-at w in absurd (omega arith))
               (λ w. s.ends u v (omega arith) g m kn q)
-              (same_or u i);
+              (cases_eq u i);
         }
 
-    pub cutting_more : Rising order lo → (k : ℕ) → k ≡ at key x → k < n → k < length next → x < length to → (r : ℕ) → (r ≤ at to x) × (r ≤ at next k) →
+    pub cutting_more : Rising order lo → (k : ℕ) → k ≡ at key x → k < n → k < length next → x < length to → (r : ℕ) → r ≡ min (at to x) (at next k) →
         Cutting order key lo n i to₀ (set next k (at lo x)) (set to x r)
     cutting_more rising k ek kn kl xl r less =
         let new-next = get_or-set_same next k (at lo x) 0 kl in
@@ -52,9 +53,9 @@ module _ (order key lo : List ℕ) (n : ℕ) (to₀ : List ℕ) where
         -- no stretch is made longer
         let falls : (y : ℕ) → at (set to x r) y ≤ at to y
         = λ y. ⊎_elim
-        (λ (e : y ≡ x). rw (e, new-to) less.0)
+        (λ (e : y ≡ x). rw (e, new-to) (omega arith))
         (λ e. rw (get_or-set_other to x y r 0 e) (omega arith))
-        (same_or y x) in
+        (cases_eq y x) in
         record {
           first = λ v c h m q cn. ⊎_elim
               (λ (f : c ≡ k).
@@ -63,20 +64,20 @@ module _ (order key lo : List ℕ) (n : ℕ) (to₀ : List ℕ) where
               (⊎_elim
               (λ (w : v ≡ i). let z : by order lo v ≡ by order lo i = ap (by order lo) w in omega arith)
               (λ w. let z = rising.up i v (omega arith) m in omega arith)
-              (same_or v i)))
+              (cases_eq v i)))
               (λ f.
               let w : v ≡ i → ⊥ = λ w. f (sym q ∙ key-at w ∙ sym ek) in
               let z = s.first v c (omega arith) m q cn in
               rw (get_or-set_other next k c (at lo x) 0 f) z)
-              (same_or c k);
+              (cases_eq c k);
           sooner = λ y. omega (arith, falls y, s.sooner y);
           ends = λ u v h g m un q. ⊎_elim
               (λ (w : u ≡ i).
               let e : at order u ≡ x = ap (at order) w ∙ sym ex in
               let z = s.first v k (omega arith) m (q ∙ key-at w ∙ sym ek) kn in
-              rw (e, new-to) (omega (arith, less.1)))
+              rw (e, new-to) (omega arith))
               (λ w. let z = s.ends u v (omega arith) g m un q in omega (arith, falls (at order u)))
-              (same_or u i);
+              (cases_eq u i);
         }
 
   pub cutting_end : (i : ℕ) (next to : List ℕ) → Cutting order key lo n i to₀ next to → i ≤ 0 → Cut order key lo n to₀ to

@@ -2,14 +2,14 @@
 use mathlib.Core.Path.{◌≡◌, sym, ◌∙◌, ap}
 use mathlib.Core.List.{List}
 use mathlib.Core.Logic.{⊎_elim}
-use Prim.Native.Nat.{ℕ, ◌+◌, ◌≤◌, ◌<◌}
+use Prim.Native.Nat.{ℕ, ◌+◌, ◌≤◌, ◌<◌, max}
 use native.Mathlib.Omega.{arith}
 use lib.ListN.{length, set}
 use lib.Seq.{get_or-set_same, get_or-set_other}
+use Rattle.std.proofs.lemmas.Bool.{cases_eq}
 use Rattle.passes.specs.Passes.{at, Rising}
 use Rattle.passes.specs.Given.{Cleared}
-use Rattle.passes.specs.Gaps.{Later}
-use Rattle.passes.proofs.Cases.{by, same_or}
+use Rattle.passes.proofs.Cases.{by}
 use Rattle.pieces.specs.Steps.{Early, Drawn}
 use Rattle.pieces.proofs.Ranking.{Ranks}
 
@@ -47,7 +47,7 @@ module _ (order key lo hi : List ℕ) (n : ℕ) where
         let w : u ≡ i → ⊥ = λ w. e (ap (at order) w ∙ sym ex) in
         let z = d.begun u (omega arith) in
         rw (get_or-set_other from x (at order u) a 0 e) z)
-        (same_or (at order u) x)
+        (cases_eq (at order u) x)
 
     -- it is in no row
     pub drawn_skip : x < n → n ≤ at key x → Drawn order key lo hi n (i + 1) (set from x (at lo x)) to sole
@@ -62,17 +62,17 @@ module _ (order key lo hi : List ℕ) (n : ℕ) where
               (λ e.
               let f' : at from y ≤ p = rw (get_or-set_other from x y (at lo x) 0 e) at f in
               further (d.early y p yn f' t))
-              (same_or y x);
+              (cases_eq y x);
         }
 
     -- it is in row k, whose ends are ranked
     module _ (rising : Rising order lo) (im : i < length order) (k : ℕ) (ek : k ≡ at key x) (kn : k < n)
-        (top who second : List ℕ) (s : Ranks order key hi n (i + 1) top who second) (a : ℕ) (later : Later (at lo x) (at second k) a) where
+        (top who second : List ℕ) (s : Ranks order key hi n (i + 1) top who second) (a : ℕ) (later : a ≡ max (at lo x) (at second k)) where
       early-here : (p : ℕ) → a ≤ p → p < at top k → Early order key lo hi (i + 1) x (at who k) p
       early-here p f t =
           let h = s.held k p kn t in
-          let first : at lo x ≤ a = later.first in
-          let second' : at second k ≤ a = later.second in
+          let first : at lo x ≤ a = omega arith in
+          let second' : at second k ≤ a = omega arith in
           let lo_x : at lo x ≡ by order lo i = ap (at lo) ex in
           let lo-h : at lo (at who k) ≡ by order lo h.place = ap (at lo) (sym h.found) in
           record {
@@ -86,24 +86,24 @@ module _ (order key lo hi : List ℕ) (n : ℕ) where
             from = ⊎_elim
                 (λ (w : h.place ≡ i). let z : by order lo h.place ≡ by order lo i = ap (by order lo) w in omega arith)
                 (λ w. let z = rising.up h.place i (omega (arith, h.below)) im in omega arith)
-                (same_or h.place i);
+                (cases_eq h.place i);
             to = h.to;
             only = λ v l q b. ⊎_elim
                 (λ e. e)
                 (λ no. let z = s.others v k (omega arith) (q ∙ sym ek) kn no in absurd (omega arith))
-                (same_or (at order v) (at who k));
+                (cases_eq (at order v) (at who k));
           }
 
       pub drawn_more : x < length to → x < length sole → Drawn order key lo hi n (i + 1) (set from x a) (set to x (at top k)) (set sole x (at who k))
       drawn_more xt xs =
           record {
-            begun = begun_more a later.first;
+            begun = begun_more a (omega arith);
             rows = λ y p yn t. ⊎_elim
                 (λ (e : y ≡ x). rw (e, ← ek) kn)
                 (λ e.
                 let t' : p < at to y = rw (get_or-set_other to x y (at top k) 0 e) at t in
                 d.rows y p yn t')
-                (same_or y x);
+                (cases_eq y x);
             early = λ y p yn f t. ⊎_elim
                 (λ (e : y ≡ x).
                 let f' : a ≤ p = rw (e, get_or-set_same from x a 0 xf) at f in
@@ -113,5 +113,5 @@ module _ (order key lo hi : List ℕ) (n : ℕ) where
                 let f' : at from y ≤ p = rw (get_or-set_other from x y a 0 e) at f in
                 let t' : p < at to y = rw (get_or-set_other to x y (at top k) 0 e) at t in
                 rw (get_or-set_other sole x y (at who k) 0 e) (further (d.early y p yn f' t')))
-                (same_or y x);
+                (cases_eq y x);
           }

@@ -5,10 +5,11 @@ use mathlib.Core.List.{List}
 use Prim.Native.Nat.{ℕ, ◌+◌, ◌≤◌, ◌<◌}
 use native.Mathlib.Omega.{arith}
 use lib.ListN.{length}
+use Rattle.std.proofs.lemmas.Bool.{cases_eq, cases_lt}
 use Rattle.passes.specs.Passes.{at, Rising}
 use Rattle.passes.specs.Given.{Cleared}
 use Rattle.passes.specs.Gaps.{Demanded, Supplied, Unmet}
-use Rattle.passes.proofs.Cases.{by, same_or, less-or}
+use Rattle.passes.proofs.Cases.{by}
 use Rattle.pieces.specs.Merged.{ByGapApart}
 
 -- no supply of the key k is present at p
@@ -46,7 +47,7 @@ module _ (order lo demand dhi : List ℕ) (room : ℕ) where
         let back : (k p : ℕ) → p < at reach' k → ((at need k ≤ p) × (p < by order lo i) → ⊥) → p < at reach k
         = λ k p h no. ⊎_elim (λ l. l)
         (λ l. let w = taken.passed k p l h in absurd (no (w.0, omega (arith, w.1))))
-        (less-or p (at reach k)) in
+        (cases_lt p (at reach k)) in
         record {
           needed = λ u k h q kr l. ⊎_elim
               (λ (w : u ≡ i).
@@ -56,7 +57,7 @@ module _ (order lo demand dhi : List ℕ) (room : ℕ) where
               let y : at dhi x ≤ at need' k = rw e at z in
               rw w (omega arith))
               (λ w. let z = m.needed u k (omega arith) q kr l in omega (arith, taken.kept k))
-              (same_or u i);
+              (cases_eq u i);
           told = λ u k p h q kr a b l none. ⊎_elim
               (λ (w : u ≡ i).
               let a' : by order lo i ≤ p = rw w at a in
@@ -64,7 +65,7 @@ module _ (order lo demand dhi : List ℕ) (room : ℕ) where
               (λ w.
               let z = m.needed u k (omega arith) q kr (omega arith) in
               m.told u k p (omega arith) q kr a b (back k p l (λ t. omega (arith, t.0))) none)
-              (same_or u i);
+              (cases_eq u i);
           ahead = λ u k p h um kr a l none.
               let up = rising.up i u (omega arith) um in
               m.ahead u k p (omega arith) um kr a (back k p l (λ t. omega (arith, t.1, up))) none;
@@ -91,7 +92,7 @@ module _ (order lo demand dhi : List ℕ) (room : ℕ) where
         let w = taken.passed k p l h in
         ⊎_elim (λ g. g)
         (λ g. absurd (none j jm (sym key-j ∙ sym w.0) (omega arith) (omega (arith, w.1))))
-        (less-or p (by supplies from j)) in
+        (cases_lt p (by supplies from j)) in
         record {
           needed = m.needed;
           told = λ u k p h q kr a b l none. ⊎_elim
@@ -101,7 +102,7 @@ module _ (order lo demand dhi : List ℕ) (room : ℕ) where
               let z = m.needed u k h q kr (omega arith) in
               let t = taken.missed k p g l (omega arith) (omega arith) in
               omega arith)
-              (less-or p (at reach k));
+              (cases_lt p (at reach k));
           ahead = λ u k p h um kr a l none. ⊎_elim
               (λ g. m.ahead u k p h um kr a g none)
               (λ g.
@@ -110,8 +111,8 @@ module _ (order lo demand dhi : List ℕ) (room : ℕ) where
               ⊎_elim
               (λ (e : u ≡ i). let z : by order lo u ≡ by order lo i = ap (by order lo) e in omega arith)
               (λ e. let up = rising.up i u (omega arith) um in omega arith)
-              (same_or u i))
-              (less-or p (at reach k));
+              (cases_eq u i))
+              (cases_lt p (at reach k));
         }
 
     -- all demands are met, and all supplies taken
@@ -134,4 +135,4 @@ module _ (order lo demand dhi : List ℕ) (room : ℕ) where
         let z = m.needed u k (omega arith) q kx (omega arith) in
         let w = unmet.each k kx (omega arith) in
         omega arith)
-        (less-or p (at reach k))
+        (cases_lt p (at reach k))

@@ -2,14 +2,14 @@
 use mathlib.Core.Path.{◌≡◌, refl, sym, ◌∙◌, ap}
 use mathlib.Core.List.{List}
 use mathlib.Core.Logic.{⊎_elim, inl, inr}
-use Prim.Native.Nat.{ℕ, ◌+◌, ◌≤◌, ◌<◌}
+use Prim.Native.Nat.{ℕ, ◌+◌, ◌≤◌, ◌<◌, max}
 use native.Mathlib.Omega.{arith}
 use lib.ListN.{length, set}
 use lib.Seq.{get_or-set_same, get_or-set_other}
+use Rattle.std.proofs.lemmas.Bool.{cases_eq}
 use Rattle.passes.specs.Passes.{at}
 use Rattle.passes.specs.Given.{Cleared}
-use Rattle.passes.specs.Gaps.{Later}
-use Rattle.passes.proofs.Cases.{by, same_or}
+use Rattle.passes.proofs.Cases.{by}
 use Rattle.pieces.specs.Lone.{Laid}
 use Rattle.pieces.specs.Steps.{Ranked}
 
@@ -28,23 +28,23 @@ ranked_first top who second k x b kt kw ks l =
       risen = λ c. ⊎_elim
           (λ (f : c ≡ k). rw (f, new-top) (omega arith))
           (λ f. rw (get_or-set_other top k c b 0 f) (omega arith))
-          (same_or c k);
+          (cases_eq c k);
       ended = rw new-top (omega arith);
       held = λ c. ⊎_elim
           (λ (f : c ≡ k). inr (f, rw f new-who, rw f new-top))
           (λ f. inl (get_or-set_other who k c x 0 f, get_or-set_other top k c b 0 f))
-          (same_or c k);
+          (cases_eq c k);
       others = λ c y e t s no. ⊎_elim
           (λ (f : c ≡ k). let t' : e ≤ at top k = rw f at t in rw (f, new-second) t')
           (λ f.
           let same = get_or-set_other who k c x 0 f in
           rw (get_or-set_other second k c (at top k) 0 f) (s (λ g. no (g ∙ sym same))))
-          (same_or c k);
+          (cases_eq c k);
       own = λ no. absurd (no (sym new-who));
     }
 
 -- record x does not take the top
-pub ranked_later : (top who second : List ℕ) (k x b r : ℕ) → k < length second → b ≤ at top k → Later (at second k) b r →
+pub ranked_later : (top who second : List ℕ) (k x b r : ℕ) → k < length second → b ≤ at top k → r ≡ max (at second k) b →
     Ranked k x b top who second top who (set second k r)
 ranked_later top who second k x b r ks l later =
     let new-second = get_or-set_same second k r 0 ks in
@@ -55,10 +55,10 @@ ranked_later top who second k x b r ks l later =
       others = λ c y e t s no. ⊎_elim
           (λ (f : c ≡ k).
           let s' : e ≤ at second k = rw f at (s no) in
-          rw (f, new-second) (omega (arith, later.first)))
+          rw (f, new-second) (omega arith))
           (λ f. rw (get_or-set_other second k c r 0 f) (s no))
-          (same_or c k);
-      own = λ no. rw new-second later.second;
+          (cases_eq c k);
+      own = λ no. rw new-second (omega arith);
     }
 
 -- record y, which ends after p, stands below i and is of row k
@@ -99,11 +99,11 @@ module _ (order key hi : List ℕ) (n : ℕ) where
           reached = λ u k h q kn. ⊎_elim
               (λ (w : u ≡ i). let e = key-at w q in absurd (omega arith))
               (λ w. s.reached u k (omega arith) q kn)
-              (same_or u i);
+              (cases_eq u i);
           others = λ u k h q kn no. ⊎_elim
               (λ (w : u ≡ i). let e = key-at w q in absurd (omega arith))
               (λ w. s.others u k (omega arith) q kn no)
-              (same_or u i);
+              (cases_eq u i);
           held = λ k p kn t. further (s.held k p kn t);
         }
 
@@ -119,7 +119,7 @@ module _ (order key hi : List ℕ) (n : ℕ) where
               let z : at hi x ≤ at top' c = rw f at r.ended in
               rw e z)
               (λ w. let z = s.reached u c (omega arith) q cn in omega (arith, r.risen c))
-              (same_or u i);
+              (cases_eq u i);
           others = λ u c h q cn no. ⊎_elim
               (λ (w : u ≡ i).
               let f : k ≡ c = ek ∙ key-at w q in
@@ -128,7 +128,7 @@ module _ (order key hi : List ℕ) (n : ℕ) where
               let y : at hi x ≤ at second' c = rw f at z in
               rw e y)
               (λ w. r.others c (at order u) (by order hi u) (s.reached u c (omega arith) q cn) (s.others u c (omega arith) q cn) no)
-              (same_or u i);
+              (cases_eq u i);
           held = λ c p cn t. ⊎_elim
               (λ e. rw e.0 (further (s.held c p cn (omega (arith, e.1)))))
               (λ e. rw e.1 (record { place = i; below = omega arith; found = sym ex; of = sym ek ∙ sym e.0; to = omega (arith, e.2) }))

@@ -1,68 +1,73 @@
 // The pass for gaps where demands and supplies come in orders of their own, as supplies do that begin later than the records they are made of.
 ghost use Rattle.std.specs.Prelude.{◌≤◌, ◌<◌, length};
 ghost use Rattle.passes.specs.Passes.{Covers};
-ghost use Rattle.pieces.specs.Merged.{GivenApart, ByGapApart, Turn};
+ghost use Rattle.pieces.specs.Merged.{GivenLines, ByGapLines, Turn};
 
 use numbers::index;
-use passes::{NEVER, clear, take_demand, take_supply, unmet};
+use passes::{NEVER, Spans, take_demand, take_supply, unmet};
+
+// Records in an order, by their numbers: the key and the places of each.
+#[derive(Clone, Copy)]
+pub struct Line<'a> {
+    pub order: &'a [u16],
+    pub spans: Spans<'a>,
+}
 
 // Whether the next to be taken is the demand at i, not the supply at j: it is where no supply is left, or none that begins before the demand.
 // Cost: at most four looks.
-fn demand_next(
-    order: &[u16],
-    lo: &[u16],
-    i: usize,
-    supplies: &[u16],
-    from: &[u16],
-    j: usize,
-) -> bool
-    requires { Covers order.now lo.now × Covers supplies.now from.now × (length supplies.now ≤ j → i < length order.now) }
-    ensures { Turn order.now lo.now i supplies.now from.now j result }
+fn demand_next(demands: Line, i: usize, supplies: Line, j: usize) -> bool
+    requires { Covers demands.order.now demands.spans.lo.now × Covers supplies.order.now supplies.spans.lo.now × (length supplies.order.now ≤ j → i < length demands.order.now) }
+    ensures { Turn demands.entry.order.now demands.entry.spans.lo.now i supplies.entry.order.now supplies.entry.spans.lo.now j result }
 {
-    if supplies.len() <= j {
+    if supplies.order.len() <= j {
         return true;
     }
-    if order.len() <= i {
+    if demands.order.len() <= i {
         return false;
     }
-    let x = index(order[i]);
-    let y = index(supplies[j]);
-    lo[x] <= from[y]
+    let x = index(demands.order[i]);
+    let y = index(supplies.order[j]);
+    demands.spans.lo[x] <= supplies.spans.lo[y]
 }
 
-// A place no later than any at which a demand is present, and no supply of its key is; NEVER where there is none. A demand of the order is
-// present from lo up to `dhi`, a supply of `supplies` from `from` up to `shi`, each by a key of its own. The order rises by lo; where the
-// supplies do not rise by `from` the answer is only sooner. Cost: at most ten looks for each demand and each supply, and four for each key.
+// A place no later than any at which a demand is present, and no supply of its key is; NEVER where there is none. The demands
+// rise by lo; where the supplies do not the answer is only sooner. Cost: at most twelve looks for each demand and each supply, and four for each key.
 pub fn gap_apart(
-    order: &[u16],
-    lo: &[u16],
-    demand: &[u16],
-    dhi: &[u16],
-    supplies: &[u16],
-    from: &[u16],
-    supply: &[u16],
-    shi: &[u16],
+    demands: Line,
+    supplies: Line,
     room: usize,
     reach: &mut [u16],
     need: &mut [u16],
 ) -> u16
-    requires { GivenApart order.now lo.now demand.now dhi.now supplies.now from.now supply.now shi.now room reach.old need.old }
-    ensures { ByGapApart order.now lo.now demand.now dhi.now supplies.now from.now supply.now shi.now room result }
+    requires { GivenLines demands supplies room reach.old need.old }
+    ensures { ByGapLines demands.entry supplies.entry room result }
 {
-    clear(reach, room);
-    clear(need, room);
+    reach[..room].fill(0);
+    need[..room].fill(0);
     let mut d = NEVER;
     let mut i = 0;
     let mut j = 0;
-    while (i < order.len()) | (j < supplies.len()) {
-        if demand_next(order, lo, i, supplies, from, j) {
-            let x = index(order[i]);
+    // a while: i and j move by turns
+    while (i < demands.order.len()) | (j < supplies.order.len()) {
+        if demand_next(demands, i, supplies, j) {
+            let x = index(demands.order[i]);
             i += 1;
-            take_demand(x, lo[x], demand, dhi, room, reach, need);
+            let a = demands.spans.lo[x];
+            take_demand(x, a, demands.spans.key, demands.spans.hi, room, reach, need);
         } else {
-            let y = index(supplies[j]);
+            let y = index(supplies.order[j]);
             j += 1;
-            d = take_supply(y, from[y], supply, shi, room, reach, need, d);
+            let a = supplies.spans.lo[y];
+            d = take_supply(
+                y,
+                a,
+                supplies.spans.key,
+                supplies.spans.hi,
+                room,
+                reach,
+                need,
+                d,
+            );
         }
     }
     unmet(reach, need, room, d)

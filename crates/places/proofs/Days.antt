@@ -1,8 +1,8 @@
 -- The days of units: they rise, and how many start before a day; and the lesser of two days.
-use mathlib.Core.Path.{◌≡◌, sym, ap}
+use mathlib.Core.Path.{◌≡◌, sym, ap, ◌∙◌}
 use mathlib.Core.Logic.{⊎_elim}
 use mathlib.Core.Bool.{Bool, true, false}
-use Prim.Native.Nat.{ℕ, ◌+◌, ◌≤◌, ◌<◌}
+use Prim.Native.Nat.{ℕ, ◌+◌, ◌≤◌, ◌<◌, min}
 use native.Mathlib.Omega.{arith}
 use borrow.Author.Tests.{le-leb, lt-leb}
 use Rattle.calendar.specs.Gregorian.{month_start, month_day}
@@ -31,9 +31,13 @@ least-left a b h = rw (le-leb a b h)
 pub least-right : (a b : ℕ) → b < a → least a b ≡ b
 least-right a b h = rw (lt-leb a b h)
 
+-- it is the minimum
+pub least_min : (a b : ℕ) → min a b ≡ least a b
+least_min a b = ⊎_elim (λ h. omega (arith, least-left a b h)) (λ h. omega (arith, least-right a b h)) (le_or_lt a b)
+
 -- the end of a place, clipped
-pub clipped : (a b x y : ℕ) → x ≡ a → y ≡ least x b → y ≡ least a b
-clipped a b x y e p = rw (sym e) p
+pub clipped : (a b x y : ℕ) → x ≡ a → y ≡ min x b → y ≡ least a b
+clipped a b x y e p = rw (sym e) (p ∙ least_min x b)
 
 pub least-most : (a b : ℕ) → least a b ≤ b
 least-most a b = ⊎_elim (λ h. omega (arith, least-left a b h)) (λ h. omega (arith, least-right a b h)) (le_or_lt a b)

@@ -3,8 +3,7 @@ use mathlib.Core.Path.{◌≡◌, sym, ◌∙◌}
 use mathlib.Core.Bool.{true, false}
 use Prim.Native.Nat.{ℕ, ◌-◌, ◌≤◌}
 use native.Mathlib.Omega.{arith}
-use Rattle.calendar.specs.declared.Month.{Month}
-use Rattle.calendar.specs.declared.Month.TheVariants.{Number, Absent}
+use Rattle.std.specs.Prelude.{Option, Some, None}
 use Rattle.calendar.specs.Gregorian.{month_on}
 use Rattle.calendar.proofs.Months.{month_on-found}
 use Rattle.meaning.specs.declared.Rule.{Rule}
@@ -59,13 +58,13 @@ module _ (r : Rule) (f : rule_fields r ≡ true) where
   windows-placed w u m = in_days w u m.monthly m.first m.span m.slide m.close
 
   -- a rule of neither unit is one of months, and its period begins with one
-  months : WindowRow r → (r.unit ≡ 0 → ⊥) → (r.unit ≡ 1 → ⊥) → (r.unit ≡ 2) × Lengths r 1200 × (k : ℕ) × (month_on r.begin ≡ Number k)
+  months : WindowRow r → (r.unit ≡ 0 → ⊥) → (r.unit ≡ 1 → ⊥) → (r.unit ≡ 2) × Lengths r 1200 × (k : ℕ) × (month_on r.begin ≡ Some k)
   months (whole_row u s l) a b = absurd (a u)
   months (day-row u w l) a b = absurd (b u)
   months (month-row u w l k e) a b = (u, l, k, e)
 
   module _ (a : r.unit ≡ 0 → ⊥) (b : r.unit ≡ 1 → ⊥) where
-    pub months_small : {m : Month} {k : ℕ} → m ≡ month_on r.begin → m ≡ Number k → Small k r.span r.slide r.end
+    pub months_small : {m : Option ℕ} {k : ℕ} → m ≡ month_on r.begin → m ≡ Some k → Small k r.span r.slide r.end
     months_small {k = k} e p =
         let w = (rule_row r).0 f in
         let n = (months w.window a b).1 in
@@ -78,14 +77,14 @@ module _ (r : Rule) (f : rule_fields r ≡ true) where
           close_most = w.period_end;
         }
 
-    pub months_placed : {m : Month} {k : ℕ} {at : Places} → (r.windowed ≡ 0 → ⊥) → m ≡ month_on r.begin → m ≡ Number k → Made true k r.span r.slide r.end at → Placed r at
+    pub months_placed : {m : Option ℕ} {k : ℕ} {at : Places} → (r.windowed ≡ 0 → ⊥) → m ≡ month_on r.begin → m ≡ Some k → Made true k r.span r.slide r.end at → Placed r at
     months_placed w e p m =
-        let q : month_on r.begin ≡ Number _ = sym e ∙ p in
+        let q : month_on r.begin ≡ Some _ = sym e ∙ p in
         in_months w (months ((rule_row r).0 f).window a b).0 m.monthly (rw m.first q) m.span m.slide m.close
 
-    pub month_there : {m : Month} → m ≡ month_on r.begin → m ≡ Absent → ⊥
+    pub month_there : {m : Option ℕ} → m ≡ month_on r.begin → m ≡ None → ⊥
     month_there {m} e p =
         let w = months ((rule_row r).0 f).window a b in
-        let q : Number w.2 ≡ Absent = sym w.3 ∙ sym e ∙ p in
+        let q : Some w.2 ≡ None = sym w.3 ∙ sym e ∙ p in
         let z : ◌≡◌ {A = ℕ} 0 1 = cc in
         omega arith

@@ -1,6 +1,5 @@
 -- The places of a rule: each is a stretch of days, a day of a sequenced rule or a window of another; from which place on, and up to which, a version is present.
-use Rattle.std.specs.Prelude.{◌≡◌, Bool, true, false, cond, ℕ, ◌+◌, ◌-◌, ◌*◌, ◌≤◌, ◌<◌}
-use Rattle.calendar.specs.declared.Month.TheVariants.{Number}
+use Rattle.std.specs.Prelude.{◌≡◌, Bool, true, false, cond, ℕ, ◌+◌, ◌-◌, ◌*◌, ◌≤◌, ◌<◌, Some}
 use Rattle.calendar.specs.Gregorian.{month_day, month_start, month_on}
 use Rattle.meaning.specs.declared.Rule.{Rule}
 use Rattle.meaning.specs.Window.{Window, least}
@@ -50,7 +49,7 @@ pub data Placed (r : Rule) (at : Places) : Type 0 where
   on-days : r.windowed ≡ 0 → at.monthly ≡ false → at.first ≡ r.begin → at.span ≡ 1 → at.slide ≡ 1 → at.close ≡ r.end → Placed r at
   whole_period : (r.windowed ≡ 0 → ⊥) → r.unit ≡ 0 → at.monthly ≡ false → at.first ≡ r.begin → at.span ≡ r.end - r.begin → at.slide ≡ r.end - r.begin → at.close ≡ r.end → Placed r at
   in_days : (r.windowed ≡ 0 → ⊥) → r.unit ≡ 1 → at.monthly ≡ false → at.first ≡ r.begin → at.span ≡ r.span → at.slide ≡ r.slide → at.close ≡ r.end → Placed r at
-  in_months : (r.windowed ≡ 0 → ⊥) → r.unit ≡ 2 → at.monthly ≡ true → month_on r.begin ≡ Number at.first → at.span ≡ r.span → at.slide ≡ r.slide → at.close ≡ r.end → Placed r at
+  in_months : (r.windowed ≡ 0 → ⊥) → r.unit ≡ 2 → at.monthly ≡ true → month_on r.begin ≡ Some at.first → at.span ≡ r.span → at.slide ≡ r.slide → at.close ≡ r.end → Placed r at
 
 -- l is the first place that ends after day b, on which a version begins
 pub record Low (at : Places) (b l : ℕ) : Type 0 where

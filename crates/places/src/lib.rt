@@ -5,11 +5,9 @@
 ghost use Rattle.std.specs.Prelude.{◌≡◌, true, ◌≤◌, leb};
 ghost use Rattle.calendar.specs.Entries.{MonthTable};
 ghost use Rattle.meaning.specs.Rules.{rule_fields};
-ghost use Rattle.meaning.specs.Window.{least};
 ghost use Rattle.places.specs.Placing.{unit_day, start_of, end_of, Counted, Placed, Low, High};
 ghost use Rattle.places.specs.Made.{Small, Made};
 
-use calendar::Month;
 use meaning::Rule;
 use numbers::index;
 
@@ -37,16 +35,6 @@ pub struct Place {
     pub shortened: bool,
 }
 
-// The lesser of two days. Cost: none.
-fn lesser(a: usize, b: usize) -> usize
-    ensures { result ≡ least a b }
-{
-    if a <= b {
-        return a;
-    }
-    b
-}
-
 // The places that these numbers give, with how many there are and how many are whole. Cost: two divisions, and for months some seven looks at
 // the table.
 fn counted(
@@ -62,7 +50,7 @@ fn counted(
 {
     let count = units::starting(table, monthly, first, slide, close);
     let ended = units::ending(table, monthly, first + span, slide, close);
-    let whole = lesser(ended, count);
+    let whole = ended.min(count);
     Places {
         monthly,
         first,
@@ -94,8 +82,8 @@ pub fn places_of(table: &[u16; 1201], rule: Rule) -> Places
         return counted(table, false, begin, span, slide, close);
     }
     match calendar::month_in(table, rule.begin) {
-        Month::Number(k) => counted(table, true, k, span, slide, close),
-        Month::Absent => counted(table, false, begin, span, slide, close),
+        Some(k) => counted(table, true, k, span, slide, close),
+        None => counted(table, false, begin, span, slide, close),
     }
 }
 
@@ -117,7 +105,7 @@ pub fn high(table: &[u16; 1201], at: Places, end: u16) -> u16
     requires { MonthTable table.now × Counted at }
     ensures { High at end result }
 {
-    let day = lesser(end as usize, at.close);
+    let day = (end as usize).min(at.close);
     units::starting(table, at.monthly, at.first, at.slide, day) as u16
 }
 
@@ -143,7 +131,7 @@ pub fn place_at(table: &[u16; 1201], at: Places, k: usize) -> Place
     let start = at.first + k * at.slide;
     let from = unit_day(table, at.monthly, start);
     let past = unit_day(table, at.monthly, start + at.span);
-    let to = lesser(past, at.close);
+    let to = past.min(at.close);
     Place {
         number: k,
         from,

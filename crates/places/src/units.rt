@@ -14,15 +14,13 @@ fn down_from(table: &[u16; 1201], day: usize, guess: usize) -> usize
     requires { MonthTable table.now × (guess ≤ 1200) }
     ensures { (result ≤ 1200) × ((j : ℕ) → j < result → month_start j < day) }
 {
-    let mut m = guess;
-    while 0 < m {
-        let start = index(calendar::entry(table, m - 1));
+    for k in (0..guess).rev() {
+        let start = index(calendar::entry(table, k));
         if start < day {
-            return m;
+            return k + 1;
         }
-        m -= 1;
     }
-    m
+    0
 }
 
 // From months that all start before the day up to the number of those that do. Cost: a look at the table for each month more, and one more.
@@ -30,15 +28,13 @@ fn up_from(table: &[u16; 1201], day: usize, some: usize) -> usize
     requires { MonthTable table.now × (day ≤ 36525) × (some ≤ 1200) × ((j : ℕ) → j < some → month_start j < day) }
     ensures { Before true day result }
 {
-    let mut m = some;
-    while m < LAST {
+    for m in some..LAST {
         let start = index(calendar::entry(table, m));
         if day <= start {
             return m;
         }
-        m += 1;
     }
-    m
+    LAST
 }
 
 // How many months start before the day. Four years of days over four years of months, 1461 / 48 or 487 / 16, guess it to a month or

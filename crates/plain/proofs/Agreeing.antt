@@ -5,29 +5,23 @@ use mathlib.Core.List.{List}
 use Prim.Native.Nat.{ℕ, ◌≤◌, ◌<◌}
 use native.Mathlib.Omega.{arith}
 use lib.Dec.{eqb}
-use lib.ListN.{length, get_or}
-use Rattle.meaning.specs.declared.Found.{Found}
-use Rattle.meaning.specs.declared.Found.TheVariants.{Nothing}
+use lib.ListN.{length, get_or, take}
+use lib.Seq.{get_or-take}
+use Rattle.std.specs.Prelude.{None}
+use Rattle.std.specs.Cmp.Lexicographic.{pointwise, same_text}
 use Rattle.meaning.specs.declared.Rule.{Rule}
-use Rattle.meaning.specs.Walk.{first}
+use Rattle.meaning.specs.Walk.{first, Found}
 use Rattle.meaning.specs.Document.{Doc}
 use Rattle.meaning.specs.Day.{present_on, offends, offender}
-use Rattle.meaning.proofs.Basics.{never}
 use Rattle.meaning.proofs.Says.{says}
 use Rattle.meaning.proofs.Selects.{version-here, read-version}
 use Rattle.meaning.proofs.Agree.{Agree, offends-agree}
 use Rattle.marks.specs.Marks.{marked, Marks}
-use Rattle.plain.specs.Walking.{same_front, offender_by}
+use Rattle.plain.specs.Walking.{offender_by}
 
--- two lists have the same front where every entry of it is, and not where one differs
-module _ (a b : List ℕ) (n : ℕ) where
-  pub front_same : (i : ℕ) → n ≤ i → ((k : ℕ) → k < i → get_or a k 0 ≡ get_or b k 0) → true ≡ same_front n a b
-  unfolding same_front
-  front_same i h same = sym (simp says (λ k l m. same k (omega arith)))
-
-  pub front_differs : (i : ℕ) → i < n → (get_or a i 0 ≡ get_or b i 0 → ⊥) → false ≡ same_front n a b
-  unfolding same_front
-  front_differs i h differ = sym (never (same_front n a b) (λ e. differ ((simp says at e) i (omega arith) (omega arith))))
+-- lists whose fronts are compared as the same have the same entries there
+front-same : (a b : List ℕ) (n : ℕ) → true ≡ pointwise eqb (take n a) (take n b) → (i : ℕ) → i < n → get_or a i 0 ≡ get_or b i 0
+front-same a b n e i h = sym (get_or-take n a i 0 h) ∙ ap (λ l. get_or l i 0) (same_text (take n a) (take n b) e) ∙ get_or-take n b i 0 h
 
 module _ (doc : Doc) (q r : Rule) where
   -- two presences that agree on every record have the same offenders
@@ -41,20 +35,14 @@ module _ (doc : Doc) (q r : Rule) where
   unfolding offender_by offender
   offender-marked d marks m = ap (λ (f : ℕ → Bool). first f 0 doc.size) (offends-alike (marked marks) (present_on doc d) m.mark)
 
-  -- the same marks give the same offender
-  pub offender-again : (before marks : List ℕ) → same_front doc.size before marks ≡ true → offender_by doc q r before ≡ offender_by doc q r marks
-  unfolding same_front offender_by
-  offender-again before marks e =
-      let same : (i : ℕ) → i < doc.size → get_or before i 0 ≡ get_or marks i 0
-      = λ i h. (simp says at e) i (omega arith) (omega arith) in
-      ap (λ (f : ℕ → Bool). first f 0 doc.size) (offends-alike (marked before) (marked marks) (λ i h. ap (λ (x : ℕ). eqb x 1) (same i h)))
-
   -- a day with the slice of the day before, which had no offender, has none
-  pub unjudged : (before marks : List ℕ) {n : ℕ} → n ≡ doc.size → {again opening : Bool} → again ≡ same_front n before marks → again && not opening ≡ true
-      → (opening ≡ false → offender_by doc q r before ≡ Nothing) → Nothing ≡ offender_by doc q r marks
-  unjudged before marks size e t none =
+  pub unjudged : (before marks : List ℕ) {n : ℕ} → n ≡ doc.size → {again opening : Bool} → again ≡ pointwise eqb (take n before) (take n marks) → again && not opening ≡ true
+      → (opening ≡ false → offender_by doc q r before ≡ None) → None ≡ offender_by doc q r marks
+  unfolding offender_by
+  unjudged before marks {n} size e t none =
       let w = simp says at t in
-      sym (none w.1) ∙ offender-again before marks (ap (λ (n : ℕ). same_front n before marks) (sym size) ∙ sym e ∙ w.0)
+      let same : (i : ℕ) → i < doc.size → get_or before i 0 ≡ get_or marks i 0 = λ i h. front-same before marks n (sym w.0 ∙ e) i (omega (arith, size, h)) in
+      sym (none w.1) ∙ ap (λ (f : ℕ → Bool). first f 0 doc.size) (offends-alike (marked before) (marked marks) (λ i h. ap (λ (x : ℕ). eqb x 1) (same i h)))
 
   -- what is judged by the marks
   pub judged : (marks : List ℕ) → doc.size ≤ length marks → {x : Found} → (Marks (marked marks) doc.size marks → x ≡ first (offends doc (marked marks) q r) 0 doc.size) → x ≡ offender_by doc q r marks

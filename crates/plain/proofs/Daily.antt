@@ -8,8 +8,8 @@ use native.Mathlib.Omega.{arith}
 use lib.Dec.{eqb}
 use lib.ListN.{length}
 use borrow.Author.Tests.{eqb-false}
-use Rattle.meaning.specs.declared.Found.{Found}
-use Rattle.meaning.specs.declared.Found.TheVariants.{At, Nothing}
+use Rattle.meaning.specs.Walk.{Found}
+use Rattle.std.specs.Prelude.{Some, None}
 use Rattle.meaning.specs.declared.Rule.{Rule}
 use Rattle.meaning.specs.Document.{Doc}
 use Rattle.meaning.specs.Day.{present_on, offender}
@@ -24,14 +24,14 @@ module _ (doc : Doc) (q r : Rule) where
     pub from : r.begin ≤ d
     pub room : doc.size ≤ length before
     pub clear : Clear doc q r (d - r.begin)
-    pub judged : r.begin < d → offender_by doc q r before ≡ Nothing
+    pub judged : r.begin < d → offender_by doc q r before ≡ None
 
   pub walking_start : (before : List ℕ) → doc.size ≤ length before → Walking before r.begin
   walking_start before h = record { from = omega arith; room = h; clear = λ i l. absurd (omega arith); judged = λ l. absurd (omega arith) }
 
   module _ (before : List ℕ) (d : ℕ) (w : Walking before d) where
     -- past the first day, the day before has no offender
-    pub walking_before : eqb d r.begin ≡ false → offender_by doc q r before ≡ Nothing
+    pub walking_before : eqb d r.begin ≡ false → offender_by doc q r before ≡ None
     walking_before e = w.judged (omega (arith, w.from, eqb-false d r.begin e))
 
     -- past the last day no day is left
@@ -43,10 +43,10 @@ module _ (doc : Doc) (q r : Rule) where
       on-day : x ≡ offender doc q r d
       on-day = ex ∙ offender-marked doc q r d present m
 
-      pub walking_hit : d < r.end → {v : ℕ} → x ≡ At v → FirstDay doc q r d v
+      pub walking_hit : d < r.end → {v : ℕ} → x ≡ Some v → FirstDay doc q r d v
       walking_hit h e = record { from = w.from; below = h; clear = w.clear; offence = sym on-day ∙ e }
 
-      pub walking_next : x ≡ Nothing → Walking present (d + 1)
+      pub walking_next : x ≡ None → Walking present (d + 1)
       walking_next e =
           record {
             from = omega (arith, w.from);

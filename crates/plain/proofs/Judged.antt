@@ -5,10 +5,10 @@ use mathlib.Core.Bool.{true, false}
 use mathlib.Core.List.{List}
 use Prim.Native.Nat.{ℕ, ◌<◌}
 use lib.ListN.{length}
+use Rattle.std.specs.Prelude.{Ok}
 use Rattle.meaning.specs.declared.Rule.{Rule}
 use Rattle.meaning.specs.declared.Verdict.{Verdict}
-use Rattle.meaning.specs.declared.Verdict.TheVariants.{Refused}
-use Rattle.meaning.specs.declared.Reading.TheVariants.{Accepted}
+use Rattle.meaning.specs.Reading.{Refused, Accepted}
 use Rattle.meaning.specs.Nodes.{doc_of, read_nodes}
 use Rattle.meaning.specs.Rules.{is_reference, rule_fields, rule_at, rules_of, read_rules}
 use Rattle.meaning.specs.Day.{on_days}
@@ -47,8 +47,8 @@ module _ (nodes rules : List ℕ) (k : ℕ) (accepted : read_nodes nodes ≡ Acc
   pub in_windows : (r.windowed ≡ 0 → ⊥) → SequencedPromise nodes rules k (Refused 11 0)
   in_windows w = by-reading nodes rules k (changes_read_windowed nodes rules k accepted table h (λ e. w (windowed ∙ e)))
 
-  pub on-every_day : r.windowed ≡ 0 → {x : Verdict} → x ≡ on_days (doc_of nodes) (referred_by (rules_of rules) k) r → SequencedPromise nodes rules k x
+  pub on-every_day : r.windowed ≡ 0 → {x : Verdict} → x ≡ on_days (doc_of nodes) (referred_by (rules_of rules) k) r → SequencedPromise nodes rules k (Ok x)
   on-every_day s e =
       ap tell_verdict
-      (e ∙ ap (on_days (doc_of nodes) (referred_by (rules_of rules) k)) er
+      (ap Ok (e ∙ ap (on_days (doc_of nodes) (referred_by (rules_of rules) k)) er)
       ∙ sym (sequenced-days nodes rules k ((changes_read nodes rules k).1 (accepted, (table, (h, sym windowed ∙ s))))))

@@ -3,6 +3,7 @@ use mathlib.Core.Path.{◌≡◌, sym, ap, ap₂, ◌∙◌, subst}
 use Prim.Native.Nat.{ℕ, suc, ◌+◌, ◌-◌, ◌≤◌}
 use native.Mathlib.Omega.{arith}
 use lib.ListN.{length}
+use Rattle.std.specs.Prelude.{Option, Some, None}
 use Rattle.meaning.specs.declared.Rule.{Rule}
 use Rattle.meaning.specs.declared.Verdict.TheVariants.{Holds, Fails}
 use Rattle.meaning.specs.Walk.{pick}
@@ -10,16 +11,15 @@ use Rattle.meaning.specs.Document.{Doc}
 use Rattle.meaning.specs.Day.{offender, is_change, change_days, on_days}
 use Rattle.meaning.proofs.Slices.{PresentAlive}
 use Rattle.meaning.proofs.DayByDay.{fails_at, holds_at}
-use Rattle.plain.specs.declared.days.Stop.{Stop}
-use Rattle.plain.specs.declared.days.Stop.TheVariants.{Here, Nowhere}
+use Rattle.plain.specs.declared.days.Failing.{Failing}
 use Rattle.plain.specs.Walking.{Clear, FirstDay, Stopped}
 
 -- what is known of a walk by where it stopped
-module _ (doc : Doc) (q r : Rule) {x : Stop} (s : Stopped doc q r x) where
-  pub stopped_here : {d v : ℕ} → x ≡ Here d v → FirstDay doc q r d v
+module _ (doc : Doc) (q r : Rule) {x : Option Failing} (s : Stopped doc q r x) where
+  pub stopped_here : {f : Failing} → x ≡ Some f → FirstDay doc q r f.day f.place
   stopped_here e = subst (Stopped doc q r) e s
 
-  pub stopped_nowhere : x ≡ Nowhere → Clear doc q r (r.end - r.begin)
+  pub stopped_nowhere : x ≡ None → Clear doc q r (r.end - r.begin)
   stopped_nowhere e = subst (Stopped doc q r) e s
 
 module _ (doc : Doc) (q r : Rule) (alive : PresentAlive doc) where

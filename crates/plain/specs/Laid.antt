@@ -1,15 +1,17 @@
--- What the plain engine asks of columns: a document that can be judged, no item of which has two current versions; and two images read into such columns.
-use Rattle.std.specs.Prelude.{◌≡◌, true, false, List, ℕ, ◌-◌, ◌≤◌, ℤ, length, take}
+-- What the plain engine asks of columns: a document that can be judged, no item of which has two current versions; and images read into such columns.
+use Rattle.std.specs.Prelude.{◌≡◌, true, false, List, ℕ, ℤ}
 use Rattle.meaning.specs.declared.Rule.{Rule}
-use Rattle.meaning.specs.declared.Reading.TheVariants.{Accepted}
+use Rattle.meaning.specs.Reading.{Accepted}
 use Rattle.meaning.specs.Document.{Doc}
 use Rattle.meaning.specs.Nodes.{doc_of, read_nodes}
 use Rattle.meaning.specs.Rules.{is_reference, read_rules}
 use Rattle.meaning.specs.Select.{selected}
+use Rattle.columns.specs.declared.Records.{Records}
 use Rattle.columns.specs.Lent.{Tree, Values, Periods}
 use Rattle.columns.specs.Judgeable.{Judgeable}
 use Rattle.marks.specs.Marks.{Marks}
 use Rattle.descent.specs.Descent.{Single}
+use Rattle.plain.specs.declared.days.Choice.{Choice}
 
 pub record Laid (doc : Doc) (kinds vkinds names parents begins ends : List ℕ) (values : List ℤ) : Type 0 where
   pub tree : Tree doc kinds names parents
@@ -25,15 +27,20 @@ pub record Chosen (doc : Doc) (q other r : Rule) (own held : List ℕ) : Type 0 
   pub own_marks : Marks (selected doc r) doc.size own
   pub held_marks : Marks (selected doc other) doc.size held
 
--- both images are accepted, and the first n entries of seven columns hold the records of the first
-pub record Read (nodes rules : List ℕ) (n : ℕ) (kinds vkinds names parents begins ends : List ℕ) (values : List ℤ) : Type 0 where
+-- the same of columns that are lent together, and of a rule's choice
+abbrev pub LaidOf : Doc → Records → Type 0
+LaidOf doc r = Laid doc r.kind.now r.vkind.now r.name.now r.parent.now r.begin.now r.end.now r.value.now
+
+abbrev pub ChosenOf : Doc → Rule → Choice → Type 0
+ChosenOf doc q c = Chosen doc q c.other c.rule c.own.now c.held.now
+
+-- an image is accepted, and the columns hold its records
+pub record Held (nodes : List ℕ) (r : Records) : Type 0 where
+  pub accepted : read_nodes nodes ≡ Accepted
+  pub laid : LaidOf (doc_of nodes) r
+
+-- both images are accepted, and the columns hold the records of the first
+pub record Read (nodes rules : List ℕ) (r : Records) : Type 0 where
   pub accepted : read_nodes nodes ≡ Accepted
   pub table : read_rules rules ≡ Accepted
-  pub kind : n ≤ length kinds
-  pub vkind : n ≤ length vkinds
-  pub name : n ≤ length names
-  pub parent : n ≤ length parents
-  pub begin : n ≤ length begins
-  pub end : n ≤ length ends
-  pub value : n ≤ length values
-  pub laid : Laid (doc_of nodes) (take (n - 0) kinds) (take (n - 0) vkinds) (take (n - 0) names) (take (n - 0) parents) (take (n - 0) begins) (take (n - 0) ends) (take (n - 0) values)
+  pub laid : LaidOf (doc_of nodes) r

@@ -14,12 +14,10 @@ pub fn count_changes(read: &[u8], begin: &[u16], end: &[u16], first: u16, past: 
     ensures { (doc : Doc) (q r : Rule) → Periods doc begin.now end.now → Marks (reads doc q r) doc.size read.now → r.begin ≡ first → result ≡ length (pick (is_change doc q r) first (past - first)) }
 {
     let mut n: usize = 0;
-    let mut d = first;
-    while d < past {
+    for d in first..past {
         if paths::turning::is_change(read, begin, end, first, d) {
             n += 1;
         }
-        d += 1;
     }
     n
 }

@@ -1,122 +1,75 @@
 // Every day of a rule's period, in order, each judged on its slice: the first that has an offender. The kind of the rule is known only to
 // `literal::offender`, which judges a day.
-ghost use Rattle.std.specs.Prelude.{◌≡◌, true, false, ◌≤◌, length};
-ghost use Rattle.meaning.specs.declared.Found.TheVariants.{Nothing};
+ghost use Rattle.std.specs.Prelude.{◌≡◌, true, false, ◌≤◌, length, None};
 ghost use Rattle.meaning.specs.declared.Rule.{Rule};
 ghost use Rattle.meaning.specs.Document.{Doc};
 ghost use Rattle.meaning.specs.Rules.{rule_fields};
-ghost use Rattle.columns.specs.Lent.{Tree, Values};
-ghost use Rattle.columns.specs.Judgeable.{Judgeable};
-ghost use Rattle.descent.specs.Descent.{Linked};
-ghost use Rattle.plain.specs.Laid.{Laid, Chosen};
-ghost use Rattle.plain.specs.Walking.{same_front, offender_by, Stopped};
+ghost use Rattle.descent.specs.Links.{Links};
+ghost use Rattle.plain.specs.Laid.{LaidOf, ChosenOf};
+ghost use Rattle.plain.specs.Walking.{offender_by, Stopped};
 
-use columns::LIMIT;
-use meaning::{Found, Rule};
+use columns::{LIMIT, Records};
+use descent::Chains;
+use meaning::Rule;
 
-// Where a walk over the days stopped, with the lowest offender of that day; or that no day has one.
+// A day that has an offender, and the lowest of that day.
 #[derive(Clone, Copy)]
-pub enum Stop {
-    Here(u16, usize),
-    Nowhere,
+pub struct Failing {
+    pub day: u16,
+    pub place: usize,
 }
 
-// Whether two slices, as marks, are the same list: the first n marks are. Cost: a look at each.
-fn same_slice(n: usize, before: &[u8], present: &[u8]) -> bool
-    requires { (n ≤ length before.now) × (n ≤ length present.now) }
-    ensures { result ≡ same_front n before.now present.now }
-{
-    let mut i = 0;
-    while i < n {
-        if before[i] != present[i] {
-            return false;
-        }
-        i += 1;
-    }
-    true
+// A rule, and the rule that it refers to if it is a reference, else itself again, with marks on the versions that either selects: `own` for the
+// rule, `held` for the other.
+#[derive(Clone, Copy)]
+pub struct Choice<'a> {
+    pub own: &'a [u8],
+    pub held: &'a [u8],
+    pub other: Rule,
+    pub rule: Rule,
 }
 
 // The lowest offender of a day whose slice is `present`; one with the slice of the day before, which had none, is not judged again. Cost: a
 // look at each record, and that of `literal::offender` where the slice is another or the day is the period's first.
-fn found_on<'a>(
-    kind: &'a [u8],
-    vkind: &'a [u8],
-    name: &'a [u16],
-    parent: &'a [u16],
-    value: &'a [i32],
-    own: &'a [u8],
-    held: &'a [u8],
-    before: &'a [u8],
-    present: &'a [u8],
+fn found_on(
+    records: Records,
+    choice: Choice,
+    before: &[u8],
+    present: &[u8],
     opening: bool,
-    other: Rule,
-    r: Rule,
-) -> Found
-    requires { (rule_fields r ≡ true) × ((doc : Doc) × Tree doc kind.now name.now parent.now × Values doc kind.now vkind.now value.now × Judgeable doc × (doc.size ≤ length own.now) × (doc.size ≤ length held.now) × (doc.size ≤ length before.now) × (doc.size ≤ length present.now)) }
-    ensures { (doc : Doc) (q : Rule) → Tree doc kind.now name.now parent.now → Values doc kind.now vkind.now value.now → Judgeable doc → Chosen doc q other r own.now held.now → doc.size ≤ length present.now → (opening ≡ false → offender_by doc q r before.now ≡ Nothing) → result ≡ offender_by doc q r present.now }
+) -> Option<usize>
+    requires { (rule_fields choice.rule ≡ true) × ((doc : Doc) × LaidOf doc records × (doc.size ≤ length choice.own.now) × (doc.size ≤ length choice.held.now) × (doc.size ≤ length before.now) × (doc.size ≤ length present.now)) }
+    ensures { (doc : Doc) (q : Rule) → LaidOf doc records.entry → ChosenOf doc q choice.entry → doc.size ≤ length present.now → (opening ≡ false → offender_by doc q choice.entry.rule before.now ≡ None) → result ≡ offender_by doc q choice.entry.rule present.now }
 {
-    let again = same_slice(kind.len(), before, present);
+    let n = records.kind.len();
+    let again = before[..n] == present[..n];
     if again & !opening {
-        return Found::Nothing;
+        return None;
     }
     literal::offender(
-        kind, vkind, name, parent, value, own, held, present, other, r,
+        records,
+        choice.own,
+        choice.held,
+        present,
+        choice.other,
+        choice.rule,
     )
 }
 
 // The first day of a rule's period that has an offender. Cost: for each day up to it its slice from the root down, and that of `found_on`.
-pub fn first_failing<'a>(
-    kind: &'a [u8],
-    vkind: &'a [u8],
-    name: &'a [u16],
-    parent: &'a [u16],
-    begin: &'a [u16],
-    end: &'a [u16],
-    value: &'a [i32],
-    own: &'a [u8],
-    held: &'a [u8],
-    version_last: &'a [u16],
-    version_lower: &'a [u16],
-    item_last: &'a [u16],
-    item_lower: &'a [u16],
-    other: Rule,
-    r: Rule,
-) -> Stop
-    requires { (rule_fields r ≡ true) × ((doc : Doc) × Laid doc kind.now vkind.now name.now parent.now begin.now end.now value.now × Linked doc version_last.now version_lower.now item_last.now item_lower.now begin.now end.now × (doc.size ≤ length own.now) × (doc.size ≤ length held.now)) }
-    ensures { (doc : Doc) (q : Rule) → Laid doc kind.now vkind.now name.now parent.now begin.now end.now value.now → Linked doc version_last.now version_lower.now item_last.now item_lower.now begin.now end.now → Chosen doc q other r own.now held.now → Stopped doc q r result }
+pub fn first_failing(records: Records, chains: Chains, choice: Choice) -> Option<Failing>
+    requires { (rule_fields choice.rule ≡ true) × ((doc : Doc) × LaidOf doc records × Links doc chains × (doc.size ≤ length choice.own.now) × (doc.size ≤ length choice.held.now)) }
+    ensures { (doc : Doc) (q : Rule) → LaidOf doc records.entry → Links doc chains.entry → ChosenOf doc q choice.entry → Stopped doc q choice.entry.rule result }
 {
-    let last = r.end - 1;
     let mut before = [0u8; LIMIT];
-    let mut d = r.begin;
-    while d <= last {
-        let present = descent::present_on(
-            version_last,
-            version_lower,
-            item_last,
-            item_lower,
-            begin,
-            end,
-            d,
-        );
-        let found = found_on(
-            kind,
-            vkind,
-            name,
-            parent,
-            value,
-            own,
-            held,
-            &before,
-            &present,
-            d == r.begin,
-            other,
-            r,
-        );
-        if let Found::At(v) = found {
-            return Stop::Here(d, v);
+    for day in choice.rule.begin..choice.rule.end {
+        let present = descent::present_on(chains, day);
+        let opening = day == choice.rule.begin;
+        let found = found_on(records, choice, &before, &present, opening);
+        if let Some(place) = found {
+            return Some(Failing { day, place });
         }
         before = present;
-        d += 1;
     }
-    Stop::Nowhere
+    None
 }

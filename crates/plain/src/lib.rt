@@ -4,8 +4,7 @@
 
 ghost use Rattle.opening.specs.Promises.{SlicePromise, SequencedPromise};
 
-use columns::Loaded;
-use meaning::{Listed, Verdict};
+use meaning::{Refusal, Verdict};
 
 pub mod days; // days.rt: every day of a period, each judged on its slice
 pub mod counting; // counting.rt: change days, counted plainly
@@ -13,27 +12,21 @@ pub mod opened; // opened.rt: the answers over opened images
 
 // The slice of a day, into a lent list: the records of the versions in the bank on that day, ascending, from the list's first entry on; or
 // refused, and the list stays as it was. Cost: reading the image, a pass that chains its records, then a look at each version of an item come to.
-pub fn slice(nodes: &[u8], day: usize, out: &mut [u16]) -> Listed
+pub fn slice(nodes: &[u8], day: usize, out: &mut [u16]) -> Result<usize, Refusal>
     ensures { SlicePromise nodes.now day out.old result out.new }
 {
     let columns = opening::open_nodes(nodes);
-    let loaded = columns.loaded;
-    match loaded {
-        Loaded::Refused(number, place) => Listed::Refused(number, place),
-        Loaded::Nodes(n) => opened::slice_of(columns, n, day, out),
-    }
+    let n = columns.loaded?;
+    opened::slice_of(columns.front(n), day, out)
 }
 
 // The verdict on a sequenced rule: holds, with how many change days its period has; fails, with the first failing day, the lowest offending
 // record and the place of that day among the change days; or refused, with 11 also where the rule is not sequenced. Cost: reading both
 // images, then that of `opened::verdict_of`.
-pub fn verdict(nodes: &[u8], rules: &[u8], rule: usize) -> Verdict
+pub fn verdict(nodes: &[u8], rules: &[u8], rule: usize) -> Result<Verdict, Refusal>
     ensures { SequencedPromise nodes.now rules.now rule result }
 {
     let columns = opening::open(nodes, rules);
-    let loaded = columns.loaded;
-    match loaded {
-        Loaded::Refused(number, place) => Verdict::Refused(number, place),
-        Loaded::Nodes(n) => opened::verdict_opened(columns, n, rules, rule),
-    }
+    let n = columns.loaded?;
+    opened::verdict_opened(columns.front(n), rules, rule)
 }

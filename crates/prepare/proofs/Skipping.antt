@@ -9,8 +9,7 @@ use native.Mathlib.Omega.{arith}
 use lib.Dec.{eqb}
 use lib.ListN.{length, get_or, set}
 use lib.Seq.{get_or-set_same, get_or-set_other}
-use Rattle.meaning.specs.declared.Found.{Found}
-use Rattle.meaning.specs.Walk.{on_found}
+use Rattle.meaning.specs.Walk.{on_found, Found}
 use Rattle.meaning.proofs.Basics.{went, le_or_lt}
 use Rattle.meaning.proofs.Loops.{first-yes, first-no, first-end}
 use Rattle.marks.specs.Marks.{Marks, after}

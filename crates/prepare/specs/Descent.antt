@@ -5,6 +5,7 @@ use Rattle.meaning.specs.Document.{Doc, is_version}
 use Rattle.meaning.specs.Select.{name_fits, path_to}
 use Rattle.columns.specs.Lent.{Tree}
 use Rattle.columns.specs.Judgeable.{Judgeable}
+use Rattle.columns.specs.declared.Records.{Records}
 
 -- x is left of a path of `steps` names after one more name, of `before`: j names and this one are passed exactly where j were, and the next one fits it
 pub record Passes (path : List ℕ) (steps before name x : ℕ) : Type 0 where
@@ -25,3 +26,7 @@ pub record Descends (kinds names parents left : List ℕ) (steps v : ℕ) : Type
   pub room : v < length left
   pub short : steps ≤ 8
   pub few : (w : ℕ) → w < v → get_or left w 0 ≤ steps
+
+-- the same of columns that are lent together
+abbrev pub DescendsIn : Records → List ℕ → ℕ → ℕ → Type 0
+DescendsIn r left steps v = Descends r.kind.now r.name.now r.parent.now left steps v

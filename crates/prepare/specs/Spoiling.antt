@@ -1,8 +1,7 @@
 -- What a nil does to a rule that takes none, by itself: the rest of what the rule asks is looked at without it.
 use Rattle.std.specs.Prelude.{◌≡◌, Bool, ◌&&◌, ◌||◌, ℕ}
-use Rattle.meaning.specs.declared.Found.{Found}
 use Rattle.meaning.specs.declared.Rule.{Rule}
-use Rattle.meaning.specs.Walk.{first}
+use Rattle.meaning.specs.Walk.{first, Found}
 use Rattle.meaning.specs.Document.{Doc}
 use Rattle.meaning.specs.Rules.{is_key, is_reference}
 use Rattle.meaning.specs.Select.{present, has_nil}

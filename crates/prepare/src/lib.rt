@@ -6,14 +6,13 @@ ghost use Rattle.meaning.specs.declared.Rule.{Rule};
 ghost use Rattle.meaning.specs.Document.{Doc};
 ghost use Rattle.meaning.specs.Rules.{is_reference};
 ghost use Rattle.meaning.specs.Select.{reads_own};
-ghost use Rattle.columns.specs.Lent.{Tree, Values};
-ghost use Rattle.columns.specs.Judgeable.{Judgeable};
+ghost use Rattle.columns.specs.Lent.{TreeOf, ValuesOf, HasValues};
 ghost use Rattle.marks.specs.Marks.{Marks};
 ghost use Rattle.prepare.specs.Rows.{Rows};
 ghost use Rattle.prepare.specs.Rowed.{Rowed};
 ghost use Rattle.prepare.specs.Sifts.{Sifts};
 
-use columns::LIMIT;
+use columns::{LIMIT, Records};
 use meaning::Rule;
 
 pub mod select; // select.rt: the versions that a rule selects
@@ -40,51 +39,32 @@ pub struct Prepared {
 // What the rule picks out of a document, put into three lent columns: a mark on each version that it selects, for each field version that matters to
 // its kind the version in whose row it is, LIMIT for every other record, and a mark on each version that it reads. They are lent and not returned, so
 // that nothing is copied; what they held before does not matter. Cost: one pass over the records.
-pub fn sift(
-    kind: &[u8],
-    vkind: &[u8],
-    name: &[u16],
-    parent: &[u16],
-    value: &[i32],
-    rule: Rule,
-    chosen: &mut [u8],
-    row: &mut [u16],
-    read: &mut [u8],
-)
-    requires { (rule.steps ≤ 8) × (length kind.now ≤ length chosen.old) × (length kind.now ≤ length row.old) × (length kind.now ≤ length read.old) × ((doc : Doc) × Tree doc kind.now name.now parent.now × Values doc kind.now vkind.now value.now × Judgeable doc) }
-    ensures { (doc : Doc) → Tree doc kind.now name.now parent.now → Values doc kind.now vkind.now value.now → Sifts doc rule chosen.new row.new read.new }
+pub fn sift(records: Records<'_>, rule: Rule, chosen: &mut [u8], row: &mut [u16], read: &mut [u8])
+    requires { (rule.steps ≤ 8) × (length records.kind.now ≤ length chosen.old) × (length records.kind.now ≤ length row.old) × (length records.kind.now ≤ length read.old) × HasValues records }
+    ensures { (doc : Doc) → TreeOf doc records.entry → ValuesOf doc records.entry → Sifts doc rule chosen.new row.new read.new }
 {
     let path = rule.path;
-    let mut i = 0;
-    while i < kind.len() {
-        let role = roles::role_of(kind, vkind, name, parent, value, chosen, &path, rule, i);
+    for i in 0..records.kind.len() {
+        let role = roles::role_of(records, chosen, &path, rule, i);
         chosen[i] = role.left;
         row[i] = role.row;
         read[i] = role.read;
-        i += 1;
     }
 }
 
 // The rule prepared. Cost: six passes over the records.
-pub fn prepare(
-    kind: &[u8],
-    vkind: &[u8],
-    name: &[u16],
-    parent: &[u16],
-    value: &[i32],
-    rule: Rule,
-) -> Prepared
-    requires { (rule.steps ≤ 8) × ((doc : Doc) × Tree doc kind.now name.now parent.now × Values doc kind.now vkind.now value.now × Judgeable doc) }
-    ensures rows { (doc : Doc) → Tree doc kind.now name.now parent.now → Values doc kind.now vkind.now value.now → Rows doc rule result.start result.next result.last result.lower }
-    ensures read { (doc : Doc) → Tree doc kind.now name.now parent.now → Marks (reads_own doc rule) doc.size result.read }
+pub fn prepare(records: Records<'_>, rule: Rule) -> Prepared
+    requires { (rule.steps ≤ 8) × HasValues records }
+    ensures rows { (doc : Doc) → TreeOf doc records.entry → ValuesOf doc records.entry → Rows doc rule result.start result.next result.last result.lower }
+    ensures read { (doc : Doc) → TreeOf doc records.entry → Marks (reads_own doc rule) doc.size result.read }
 {
-    let chosen = select::mark_selected(kind, name, parent, rule);
-    let holder = fields::holders(kind, name, parent, rule);
-    let read = reads::mark_by(&chosen, &holder, kind.len());
-    let links = rows::link(kind, vkind, value, &chosen, &holder, rule);
+    let chosen = select::mark_selected(records, rule);
+    let holder = fields::holders(records, rule);
+    let read = reads::mark_by(&chosen, &holder, records.kind.len());
+    let links = rows::link(records, &chosen, &holder, rule);
     let last = links.last;
     let lower = links.lower;
-    let way = rows::way_along(&chosen, kind.len());
+    let way = rows::way_along(&chosen, records.kind.len());
     let next = way.next;
     Prepared {
         start: way.start,
@@ -96,22 +76,13 @@ pub fn prepare(
 }
 
 // The rule that a reference refers to, prepared; the rule itself again if it is none.
-pub fn prepare_referred(
-    kind: &[u8],
-    vkind: &[u8],
-    name: &[u16],
-    parent: &[u16],
-    value: &[i32],
-    own: Prepared,
-    q: Rule,
-    r: Rule,
-) -> Prepared
-    requires { (is_reference r ≡ true → q.steps ≤ 8) × ((doc : Doc) × Tree doc kind.now name.now parent.now × Values doc kind.now vkind.now value.now × Judgeable doc) }
-    ensures referred { (doc : Doc) → Tree doc kind.now name.now parent.now → Values doc kind.now vkind.now value.now → is_reference r ≡ true → Rowed doc q result }
-    ensures some { (doc : Doc) → Tree doc kind.now name.now parent.now → Values doc kind.now vkind.now value.now → Rowed doc r own → ((p : Rule) × Rowed doc p result) }
+pub fn prepare_referred(records: Records<'_>, own: Prepared, q: Rule, r: Rule) -> Prepared
+    requires { (is_reference r ≡ true → q.steps ≤ 8) × HasValues records }
+    ensures referred { (doc : Doc) → TreeOf doc records.entry → ValuesOf doc records.entry → is_reference r ≡ true → Rowed doc q result }
+    ensures some { (doc : Doc) → TreeOf doc records.entry → ValuesOf doc records.entry → Rowed doc r own → ((p : Rule) × Rowed doc p result) }
 {
     if r.kind != 3 {
         return own;
     }
-    prepare(kind, vkind, name, parent, value, q)
+    prepare(records, q)
 }

@@ -4,14 +4,13 @@ ghost use Rattle.meaning.specs.Document.{Doc};
 ghost use Rattle.meaning.specs.declared.Rule.{Rule};
 ghost use Rattle.meaning.specs.Select.{selected, reads_own};
 ghost use Rattle.meaning.specs.Block.{limit};
-ghost use Rattle.columns.specs.Lent.{Tree};
-ghost use Rattle.columns.specs.Judgeable.{Judgeable};
+ghost use Rattle.columns.specs.Lent.{TreeOf, HasTree};
 ghost use Rattle.marks.specs.Marks.{Marks};
 ghost use Rattle.prepare.specs.Holders.{Holders};
 
 use crate::fields::holders;
 use crate::select::mark_selected;
-use columns::LIMIT;
+use columns::{LIMIT, Records};
 use meaning::Rule;
 use numbers::index;
 
@@ -36,20 +35,18 @@ pub fn mark_by(chosen: &[u8], holder: &[u16], n: usize) -> [u8; LIMIT]
     ensures { (doc : Doc) (rule : Rule) → doc.size ≡ n → Marks (selected doc rule) doc.size chosen.now → Holders doc rule holder.now → Marks (reads_own doc rule) doc.size result }
 {
     let mut marks = [0u8; LIMIT];
-    let mut i = 0;
-    while i < n {
+    for i in 0..n {
         marks[i] = read_mark(chosen, holder, n, i);
-        i += 1;
     }
     marks
 }
 
 // A mark on each version that the rule by itself reads. Cost: three passes over the records.
-pub fn mark_read(kind: &[u8], name: &[u16], parent: &[u16], rule: Rule) -> [u8; LIMIT]
-    requires { (rule.steps ≤ 8) × ((doc : Doc) × Tree doc kind.now name.now parent.now × Judgeable doc) }
-    ensures { (doc : Doc) → Tree doc kind.now name.now parent.now → Marks (reads_own doc rule) doc.size result }
+pub fn mark_read(records: Records<'_>, rule: Rule) -> [u8; LIMIT]
+    requires { (rule.steps ≤ 8) × HasTree records }
+    ensures { (doc : Doc) → TreeOf doc records.entry → Marks (reads_own doc rule) doc.size result }
 {
-    let chosen = mark_selected(kind, name, parent, rule);
-    let holder = holders(kind, name, parent, rule);
-    mark_by(&chosen, &holder, kind.len())
+    let chosen = mark_selected(records, rule);
+    let holder = holders(records, rule);
+    mark_by(&chosen, &holder, records.kind.len())
 }

@@ -2,13 +2,13 @@
 ghost use Rattle.std.specs.Prelude.{◌≡◌, ℕ, ◌<◌, length, get_or};
 ghost use Rattle.meaning.specs.Block.{limit};
 ghost use Rattle.meaning.specs.Document.{Doc};
-ghost use Rattle.columns.specs.Lent.{Tree, Values};
-ghost use Rattle.prepare.specs.Descent.{Left, Descends};
+ghost use Rattle.columns.specs.Lent.{TreeOf, ValuesOf};
+ghost use Rattle.prepare.specs.Descent.{Left, DescendsIn};
 ghost use Rattle.prepare.specs.Acting.{owner_of, Acts};
 
 use crate::rows::wanted;
 use crate::select::{left_after, left_before};
-use columns::LIMIT;
+use columns::{LIMIT, Records};
 use meaning::Rule;
 use numbers::index;
 
@@ -39,39 +39,36 @@ fn owner_of(field: u16, name: u16, above: u16, before: u8, left: u8, i: usize) -
 }
 
 // The role of record i, given what is left below those before it. Cost: at most nine looks.
-pub fn role_of(
-    kind: &[u8],
-    vkind: &[u8],
-    name: &[u16],
-    parent: &[u16],
-    value: &[i32],
-    left: &[u8],
-    path: &[u16; 8],
-    rule: Rule,
-    i: usize,
-) -> Role
-    requires { Descends kind.now name.now parent.now left.now rule.steps i × (i < length vkind.now) × (i < length value.now) }
-    ensures { (doc : Doc) → Tree doc kind.now name.now parent.now → Values doc kind.now vkind.now value.now → rule.path ≡ path.now → ((w : ℕ) → w < i → Left doc rule w (get_or left.now w 0)) → Acts doc rule i result.left result.row result.read }
+pub fn role_of(records: Records<'_>, left: &[u8], path: &[u16; 8], rule: Rule, i: usize) -> Role
+    requires { DescendsIn records left.now rule.steps i × (i < length records.vkind.now) × (i < length records.value.now) }
+    ensures { (doc : Doc) → TreeOf doc records.entry → ValuesOf doc records.entry → rule.path ≡ path.now → ((w : ℕ) → w < i → Left doc rule w (get_or left.now w 0)) → Acts doc rule i result.left result.row result.read }
 {
-    if kind[i] != 2 {
+    if records.kind[i] != 2 {
         return Role {
             left: 0,
             row: LIMIT as u16,
             read: 0,
         };
     }
-    let item = index(parent[i]);
-    let before = left_before(parent, left, rule.steps, item);
-    let here = left_after(path, rule.steps, before, name[item]);
-    let owner = owner_of(rule.field, name[item], parent[item], before, here, i);
-    if kind.len() <= index(owner) {
+    let item = index(records.parent[i]);
+    let before = left_before(records.parent, left, rule.steps, item);
+    let here = left_after(path, rule.steps, before, records.name[item]);
+    let owner = owner_of(
+        rule.field,
+        records.name[item],
+        records.parent[item],
+        before,
+        here,
+        i,
+    );
+    if records.kind.len() <= index(owner) {
         return Role {
             left: here,
             row: owner,
             read: here,
         };
     }
-    if wanted(vkind[i], value[i], rule) {
+    if wanted(records.vkind[i], records.value[i], rule) {
         return Role {
             left: here,
             row: owner,

@@ -4,15 +4,15 @@ ghost use Rattle.meaning.specs.Document.{Doc};
 ghost use Rattle.meaning.specs.declared.Rule.{Rule};
 ghost use Rattle.meaning.specs.Select.{selected};
 ghost use Rattle.meaning.specs.Block.{limit};
-ghost use Rattle.columns.specs.Lent.{Lends, Values};
+ghost use Rattle.columns.specs.Lent.{Lends, ValuesOf};
 ghost use Rattle.columns.specs.Judgeable.{Judgeable};
 ghost use Rattle.marks.specs.Marks.{Marks};
 ghost use Rattle.prepare.specs.Holders.{Holders, Skips};
 ghost use Rattle.prepare.specs.Rows.{over_nils, wants, in_row};
 ghost use Rattle.prepare.specs.Keys.{Keys, Linked};
 
-use columns::LIMIT;
 use columns::chains::{Links, chain};
+use columns::{LIMIT, Records};
 use meaning::Rule;
 use numbers::index;
 
@@ -71,29 +71,20 @@ pub fn keys(vkind: &[u8], value: &[i32], chosen: &[u8], holder: &[u16], rule: Ru
     ensures { (doc : Doc) → Lends doc.size doc.vkind 0 vkind.now → Lends doc.size doc.value (pos 0) value.now → Marks (selected doc rule) doc.size chosen.now → Holders doc rule holder.now → Keys doc rule result }
 {
     let mut out = [0u16; LIMIT];
-    let mut f = 0;
-    while f < vkind.len() {
+    for f in 0..vkind.len() {
         let matters = wanted(vkind[f], value[f], rule);
         out[f] = key(chosen, holder, vkind.len(), matters, f);
-        f += 1;
     }
     out
 }
 
 // The row of each selected version as a chain. Cost: two passes over the records.
-pub fn link(
-    kind: &[u8],
-    vkind: &[u8],
-    value: &[i32],
-    chosen: &[u8],
-    holder: &[u16],
-    rule: Rule,
-) -> Links
-    requires { (length kind.now ≤ length chosen.now) × (length kind.now ≤ length holder.now) × ((doc : Doc) × Values doc kind.now vkind.now value.now × Judgeable doc) }
-    ensures { (doc : Doc) → Values doc kind.now vkind.now value.now → Marks (selected doc rule) doc.size chosen.now → Holders doc rule holder.now → Linked doc rule result.last result.lower }
+pub fn link(records: Records<'_>, chosen: &[u8], holder: &[u16], rule: Rule) -> Links
+    requires { (length records.kind.now ≤ length chosen.now) × (length records.kind.now ≤ length holder.now) × ((doc : Doc) × ValuesOf doc records × Judgeable doc) }
+    ensures { (doc : Doc) → ValuesOf doc records.entry → Marks (selected doc rule) doc.size chosen.now → Holders doc rule holder.now → Linked doc rule result.last result.lower }
 {
-    let key = keys(vkind, value, chosen, holder, rule);
-    chain(kind, &key, 2)
+    let key = keys(records.vkind, records.value, chosen, holder, rule);
+    chain(records.kind, &key, 2)
 }
 
 // Record i where it is marked, else `at`. Cost: one test.
@@ -114,9 +105,7 @@ pub fn way_along(marks: &[u8], n: usize) -> Way
 {
     let mut next = [0u16; LIMIT];
     let mut at = n as u16;
-    let mut i = n;
-    while 0 < i {
-        i -= 1;
+    for i in (0..n).rev() {
         next[i] = at;
         at = nearer(marks[i], i, at);
     }

@@ -3,12 +3,11 @@ ghost use Rattle.std.specs.Prelude.{◌≡◌, ℕ, suc, ◌<◌, ◌≤◌, len
 ghost use Rattle.meaning.specs.Document.{Doc};
 ghost use Rattle.meaning.specs.declared.Rule.{Rule};
 ghost use Rattle.meaning.specs.Select.{name_fits, selected};
-ghost use Rattle.columns.specs.Lent.{Tree};
-ghost use Rattle.columns.specs.Judgeable.{Judgeable};
+ghost use Rattle.columns.specs.Lent.{TreeOf, HasTree};
 ghost use Rattle.marks.specs.Marks.{Marks};
-ghost use Rattle.prepare.specs.Descent.{Passes, Left, Descends};
+ghost use Rattle.prepare.specs.Descent.{Passes, Left, DescendsIn};
 
-use columns::LIMIT;
+use columns::{LIMIT, Records};
 use meaning::Rule;
 use numbers::index;
 
@@ -47,37 +46,27 @@ pub fn left_after(path: &[u16; 8], steps: u8, before: u8, name: u16) -> u8
 }
 
 // What is left below record v, 0 where it is no version. Cost: five looks.
-fn left_below(
-    kind: &[u8],
-    name: &[u16],
-    parent: &[u16],
-    left: &[u8],
-    path: &[u16; 8],
-    steps: u8,
-    v: usize,
-) -> u8
-    requires { Descends kind.now name.now parent.now left.now steps v }
-    ensures { (doc : Doc) (r : Rule) → Tree doc kind.now name.now parent.now → r.path ≡ path.now → r.steps ≡ steps → ((w : ℕ) → w < v → Left doc r w (get_or left.now w 0)) → Left doc r v result }
+fn left_below(records: Records<'_>, left: &[u8], path: &[u16; 8], steps: u8, v: usize) -> u8
+    requires { DescendsIn records left.now steps v }
+    ensures { (doc : Doc) (r : Rule) → TreeOf doc records.entry → r.path ≡ path.now → r.steps ≡ steps → ((w : ℕ) → w < v → Left doc r w (get_or left.now w 0)) → Left doc r v result }
 {
-    if kind[v] != 2 {
+    if records.kind[v] != 2 {
         return 0;
     }
-    let item = index(parent[v]);
-    let before = left_before(parent, left, steps, item);
-    left_after(path, steps, before, name[item])
+    let item = index(records.parent[v]);
+    let before = left_before(records.parent, left, steps, item);
+    left_after(path, steps, before, records.name[item])
 }
 
 // A mark on each selected version: what is left below it is one, no name and no more. Cost: one pass over the records.
-pub fn mark_selected(kind: &[u8], name: &[u16], parent: &[u16], rule: Rule) -> [u8; LIMIT]
-    requires { (rule.steps ≤ 8) × ((doc : Doc) × Tree doc kind.now name.now parent.now × Judgeable doc) }
-    ensures { (doc : Doc) → Tree doc kind.now name.now parent.now → Marks (selected doc rule) doc.size result }
+pub fn mark_selected(records: Records<'_>, rule: Rule) -> [u8; LIMIT]
+    requires { (rule.steps ≤ 8) × HasTree records }
+    ensures { (doc : Doc) → TreeOf doc records.entry → Marks (selected doc rule) doc.size result }
 {
     let path = rule.path;
     let mut left = [0u8; LIMIT];
-    let mut i = 0;
-    while i < kind.len() {
-        left[i] = left_below(kind, name, parent, &left, &path, rule.steps, i);
-        i += 1;
+    for i in 0..records.kind.len() {
+        left[i] = left_below(records, &left, &path, rule.steps, i);
     }
     left
 }

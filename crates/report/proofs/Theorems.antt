@@ -1,14 +1,14 @@
 -- What a report's text is: whole in a buffer of 9,031 bytes, one for each pair of images, refused where every rule is; and that of the example bank.
+use Rattle.std.specs.Prelude.{Err, Result}
 use mathlib.Core.Path.{◌≡◌, refl, sym, ap, ◌∙◌, fun_ext}
 use mathlib.Core.List.{List, ◌++◌}
-use Prim.Native.Nat.{ℕ, zero, suc, ◌+◌, ◌*◌, ◌≤◌}
+use Prim.Native.Nat.{ℕ, zero, suc, ◌*◌, ◌≤◌}
 use native.Mathlib.Omega.{arith}
 use lib.Dec.{ltb}
 use lib.ListN.{length, take, length-append}
-use Rattle.meaning.specs.declared.Reading.{Reading}
-use Rattle.meaning.specs.declared.Reading.TheVariants.{Accepted, Refused}
+use Rattle.meaning.specs.Reading.{Reading, Accepted, Refused}
+use Rattle.meaning.specs.declared.Refusal.{Refusal}
 use Rattle.meaning.specs.declared.Verdict.{Verdict}
-use Rattle.meaning.specs.declared.Verdict.TheVariants.{Refused as Unjudged}
 use Rattle.meaning.specs.Order.{need, and_then}
 use Rattle.meaning.specs.Nodes.{read_nodes}
 use Rattle.meaning.specs.Rules.{rules_of, read_rules}
@@ -25,7 +25,7 @@ use Rattle.spelling.proofs.Rooms.{line-room, refused_room}
 use Rattle.spelling.specs.Lines.{told, rule_line, header}
 use Rattle.report.specs.Text.{rule_lines, line_or, report_of}
 
-lines-room : (found : ℕ → Verdict) (k n : ℕ) → length (rule_lines found k n) ≤ 90 * n
+lines-room : (found : ℕ → Result Verdict Refusal) (k n : ℕ) → length (rule_lines found k n) ≤ 90 * n
 unfolding rule_lines
 lines-room found k zero = omega arith
 lines-room found k (suc n) = omega (arith, length-append (rule_line k (found k)) (rule_lines found (suc k) n), line-room k (found k), lines-room found (suc k) n)
@@ -37,8 +37,8 @@ module _ (nodes rules : List ℕ) where
   report_room = go (read_nodes nodes) (read_rules rules) refl
     where
       go : (x y : Reading) → y ≡ read_rules rules → length (line_or (and_then x y) (header ++ rule_lines (verdict nodes rules) 0 (length (rules_of rules)))) ≤ 9031
-      go (Refused a b) y e = omega (arith, refused_room a b)
-      go Accepted (Refused a b) e = omega (arith, refused_room a b)
+      go (Err why) y e = omega (arith, refused_room why.number why.place)
+      go Accepted (Err why) e = omega (arith, refused_room why.number why.place)
       go Accepted Accepted e = omega (arith, length-append header (rule_lines (verdict nodes rules) 0 (length (rules_of rules))), lines-room (verdict nodes rules) 0 (length (rules_of rules)), accepted-few rules (sym e))
 
   -- So a buffer of that size holds the whole report, and its front is the report.
@@ -50,7 +50,7 @@ module _ (nodes rules : List ℕ) where
   report_unique p q = puts_unique p q
 
   -- Where the report is one line of refusal, every rule number's verdict is that refusal.
-  pub refused_for_all : {a b : ℕ} → and_then (read_nodes nodes) (read_rules rules) ≡ Refused a b → (k : ℕ) → verdict nodes rules k ≡ Unjudged a b
+  pub refused_for_all : {a b : ℕ} → and_then (read_nodes nodes) (read_rules rules) ≡ Refused a b → (k : ℕ) → verdict nodes rules k ≡ Refused a b
   unfolding verdict read_verdict
   refused_for_all e k = rw (still (read_nodes nodes) (read_rules rules) (need (ltb k (length (rules_of rules))) 11 0) e) refl
 

@@ -3,17 +3,14 @@ use mathlib.Core.Path.{◌≡◌, refl, sym, ap, ◌∙◌}
 use mathlib.Core.Bool.{Bool, true, false, ◌||◌, not}
 use mathlib.Core.List.{List}
 use Prim.Native.Nat.{ℕ, ◌+◌, ◌-◌, ◌≤◌, ◌<◌}
-use native.Mathlib.Omega.{arith}
 use borrow.Author.Tests.{eq-eqb, ne_eqb, lt-ltb, le-ltb, not-true, not-false}
 use lib.Dec.{eqb}
 use lib.ListN.{length, get_or}
-use Rattle.meaning.specs.declared.Reading.{Reading}
-use Rattle.meaning.specs.declared.Reading.TheVariants.{Accepted, Refused}
+use Rattle.meaning.specs.Reading.{Reading, Accepted, Refused}
 use Rattle.meaning.specs.Order.{need, and_then, earliest, in_order}
 use Rattle.meaning.specs.Block.{rule_form, image_tests, record_of}
 use Rattle.meaning.specs.Rules.{rule_at, rules_of, read_rule, refers_well, table_tests, read_rules}
-use Rattle.rules.specs.declared.decode.Decoded.{Decoded}
-use Rattle.rules.specs.declared.decode.Decoded.TheVariants as decoded
+use Rattle.std.specs.Prelude.{Result, Ok, Err}
 use Rattle.rules.specs.declared.decode.Numbers.{Numbers}
 use Rattle.rules.specs.Decoding.{numbers_of, decoded_in, said}
 use Rattle.rules.specs.Table.{Table, refers_in}
@@ -26,12 +23,12 @@ use Rattle.rules.proofs.Tables.{rule_here, row}
 abbrev pub tells : List ℕ → ℕ → Reading
 tells image k = read_rule image (rules_of image) k
 
-module _ (image : List ℕ) (n k : ℕ) {part : List ℕ} {d : Decoded} (t : Table image n) (here : k < n) (ep : part ≡ record_of rule_form image k) (ed : d ≡ decoded_in part) where
+module _ (image : List ℕ) (n k : ℕ) {part : List ℕ} {d : Result Numbers ℕ} (t : Table image n) (here : k < n) (ep : part ≡ record_of rule_form image k) (ed : d ≡ decoded_in part) where
   told : tells image k ≡ said d k
   unfolding read_rule
   told = rw (rule_here image k (row t here).below, ed, ep) (sym (orderly (record_of rule_form image k) k))
 
-  module _ {x : Numbers} (e : d ≡ decoded.Sound x) where
+  module _ {x : Numbers} (e : d ≡ Ok x) where
     pub decodes : earliest (tells image) (k + 1) (n - (k + 1)) ≡ earliest (tells image) k (n - k)
     decodes = earliest-on (tells image) n k here (told ∙ rw e)
 
@@ -39,15 +36,8 @@ module _ (image : List ℕ) (n k : ℕ) {part : List ℕ} {d : Decoded} (t : Tab
     pub decodes_as : x ≡ numbers_of (rule_at (rules_of image) k)
     decodes_as = taken (record_of rule_form image k) (ap decoded_in (sym ep) ∙ sym ed ∙ e) ∙ ap numbers_of (sym (rule_here image k (row t here).below))
 
-  pub stops : {m : ℕ} {x : Reading} → d ≡ decoded.Refused m → x ≡ said d k → x ≡ earliest (tells image) k (n - k)
-  stops e ex = rw (ex, e) (earliest-stops (tells image) n k here (told ∙ rw e))
-
--- a record that does not decode is no acceptance
-pub stopped : (k : ℕ) {d : Decoded} {m : ℕ} {x : Reading} {A : Type 0} → d ≡ decoded.Refused m → x ≡ said d k → x ≡ Accepted → A
-stopped k {d} {m} {x} e ex f =
-    let y : x ≡ Refused m k = ex ∙ ap (λ (z : Decoded). said z k) e in
-    let z : ◌≡◌ {A = ℕ} 0 1 = cc in
-    absurd (omega arith)
+  pub stops : {m : ℕ} → d ≡ Err m → Refused m k ≡ earliest (tells image) k (n - k)
+  stops e = earliest-stops (tells image) n k here (told ∙ rw e)
 
 -- what the columns say of the rule that rule k refers to
 abbrev pub refers : List ℕ → List ℕ → ℕ → ℕ → Reading
@@ -76,7 +66,7 @@ module _ (kind referred : List ℕ) (n k : ℕ) where
 
 ends : (x : Reading) → and_then x Accepted ≡ x
 ends Accepted = refl
-ends (Refused number place) = refl
+ends (Err why) = refl
 
 -- 26 by the table
 abbrev well_in : List ℕ → ℕ → Reading

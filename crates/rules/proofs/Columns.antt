@@ -9,7 +9,7 @@ use borrow.Author.Tests.{le-ltb}
 use lib.ListN.{length, set}
 use lib.Seq.{get_or-set_same, get_or-set_other}
 use Rattle.meaning.specs.declared.Rule.{Rule}
-use Rattle.meaning.specs.declared.Reading.{Reading}
+use Rattle.meaning.specs.Reading.{Reading}
 use Rattle.meaning.specs.Order.{need, earliest}
 use Rattle.meaning.specs.Rules.{rule_at, refers_well}
 use Rattle.meaning.proofs.Basics.{le_or_lt}

@@ -15,8 +15,7 @@ use Rattle.meaning.specs.Order.{need, and_then}
 use Rattle.meaning.specs.Block.{all_zero}
 use Rattle.meaning.specs.Rules.{rule_in, spare_in, rule_fields}
 use Rattle.rules.specs.declared.decode.Numbers.{Numbers}
-use Rattle.rules.specs.declared.decode.Decoded.{Decoded}
-use Rattle.rules.specs.declared.decode.Decoded.TheVariants.{Sound, Refused}
+use Rattle.std.specs.Prelude.{Result, Ok, Err}
 use Rattle.rules.specs.Decoding.{numbers_of, decoded_in, said}
 
 module _ (s : List ℕ) where
@@ -49,30 +48,30 @@ module _ (s : List ℕ) where
   spare h e = rw (e, zeros s 8 42 (omega arith))
 
   module _ {z : Bool} (ez : z ≡ spare_in s) where
-    pub not_zero : not z ≡ true → Refused 24 ≡ decoded_in s
+    pub not_zero : not z ≡ true → Err 24 ≡ decoded_in s
     unfolding decoded_in
     not_zero p = rw (← ez, not-true z p)
 
     module _ (zeroed : not z ≡ false) {f : Bool} (ef : f ≡ rule_fields (rule_in s)) where
-      pub breaks-table : not f ≡ true → Refused 25 ≡ decoded_in s
+      pub breaks-table : not f ≡ true → Err 25 ≡ decoded_in s
       unfolding decoded_in
       breaks-table p = rw (← ez, not-false z zeroed, ← ef, not-true f p)
 
-      pub sound : {x : Numbers} → not f ≡ false → x ≡ numbers_of (rule_in s) → Sound x ≡ decoded_in s
+      pub sound : {x : Numbers} → not f ≡ false → x ≡ numbers_of (rule_in s) → Ok x ≡ decoded_in s
       unfolding decoded_in
       sound p ex = rw (← ez, not-false z zeroed, ← ef, not-false f p, ex)
 
 -- 24 ahead of 25, at record k; and what is decoded is what was read
 module _ (x : Numbers) where
-  abbrev both : Bool → Bool → Decoded
-  both z f = cond z (cond f (Sound x) (Refused 25)) (Refused 24)
+  abbrev both : Bool → Bool → Result Numbers ℕ
+  both z f = cond z (cond f (Ok x) (Err 25)) (Err 24)
 
   by_both : (z f : Bool) (k : ℕ) → said (both z f) k ≡ and_then (need z 24 k) (need f 25 k)
   by_both true true k = refl
   by_both true false k = refl
   by_both false f k = refl
 
-  none-else : (z f : Bool) {y : Numbers} → both z f ≡ Sound y → y ≡ x
+  none-else : (z f : Bool) {y : Numbers} → both z f ≡ Ok y → y ≡ x
   none-else true true e = cc
   none-else true false e = cc
   none-else false f e = cc
@@ -82,6 +81,6 @@ module _ (s : List ℕ) where
   unfolding decoded_in
   orderly k = by_both (numbers_of (rule_in s)) (spare_in s) (rule_fields (rule_in s)) k
 
-  pub taken : {y : Numbers} → decoded_in s ≡ Sound y → y ≡ numbers_of (rule_in s)
+  pub taken : {y : Numbers} → decoded_in s ≡ Ok y → y ≡ numbers_of (rule_in s)
   unfolding decoded_in
   taken e = none-else (numbers_of (rule_in s)) (spare_in s) (rule_fields (rule_in s)) e

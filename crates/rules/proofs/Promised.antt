@@ -2,7 +2,7 @@
 use mathlib.Core.Path.{◌≡◌, sym, ◌∙◌}
 use mathlib.Core.List.{List}
 use Prim.Native.Nat.{ℕ}
-use Rattle.meaning.specs.declared.Reading.{Reading}
+use Rattle.meaning.specs.Reading.{Reading}
 use Rattle.meaning.specs.Rules.{read_rules}
 use Rattle.meaning.proofs.Unique.{reading_unique}
 use Rattle.rules.specs.Promises.{RulesPromise}

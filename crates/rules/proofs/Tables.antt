@@ -9,7 +9,7 @@ use native.Mathlib.Omega.{arith}
 use borrow.Author.Tests.{eqb-true, eq-eqb, ne_eqb}
 use lib.ListN.{length}
 use Rattle.meaning.specs.declared.Rule.{Rule}
-use Rattle.meaning.specs.declared.Reading.TheVariants.{Accepted}
+use Rattle.meaning.specs.Reading.{Accepted}
 use Rattle.meaning.specs.Order.{in_order}
 use Rattle.meaning.specs.Block.{rule_form, image_tests, records, record_of}
 use Rattle.meaning.specs.Rules.{is_key, is_unique, is_reference, rule_in, no_rule, rule_fields, rule_at, rules_of, read_rules}

@@ -1,7 +1,7 @@
 -- What the readers of a rule table ask of its image, and what they say of a count, of one place of a path, of the columns kept of its rules, and of the rule that one refers to.
 use Rattle.std.specs.Prelude.{◌≡◌, Bool, ◌&&◌, ◌||◌, not, cond, List, ℕ, ◌*◌, ◌≤◌, ◌<◌, eqb, leb, ltb, length, get_or}
 use Rattle.meaning.specs.declared.Rule.{Rule}
-use Rattle.meaning.specs.declared.Reading.TheVariants.{Accepted}
+use Rattle.meaning.specs.Reading.{Accepted}
 use Rattle.meaning.specs.Order.{in_order}
 use Rattle.meaning.specs.Block.{rule_form, image_tests}
 use Rattle.meaning.specs.Rules.{is_reference, rule_at, rules_of}

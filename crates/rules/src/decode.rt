@@ -3,10 +3,10 @@ ghost use Rattle.std.specs.Prelude.{◌≡◌, ◌+◌, ◌*◌, length};
 ghost use Rattle.meaning.specs.Walk.{listed};
 ghost use Rattle.meaning.specs.Bytes.{two};
 ghost use Rattle.meaning.specs.Rules.{rule_in, spare_in};
-ghost use Rattle.rules.specs.Decoding.{numbers_of, decoded_in, said};
+ghost use Rattle.rules.specs.Decoding.{numbers_of, decoded_in};
 
 use crate::fields::rule_fields;
-use meaning::{Reading, Rule};
+use meaning::Rule;
 use numbers::{signed_at, two_at};
 
 // The numbers of a rule apart from its path, which is an array: to prove a function over an enum that holds one is dear.
@@ -25,13 +25,6 @@ pub struct Numbers {
     pub span: u16,
     pub unit: u8,
     pub slide: u16,
-}
-
-// What comes of one record by itself: its numbers, or the number of the test that it fails.
-#[derive(Clone, Copy)]
-pub enum Decoded {
-    Sound(Numbers),
-    Refused(usize),
 }
 
 // The eight names of a path.
@@ -104,27 +97,17 @@ fn numbers_of(rule: Rule) -> Numbers
     }
 }
 
-// The tests of one record: its zeros (24), then its table (25).
-pub fn decode(part: &[u8]) -> Decoded
+// What comes of one record by itself: its numbers, or the number of the test that it fails, its zeros (24), then its table (25).
+pub fn decode(part: &[u8]) -> Result<Numbers, usize>
     requires { length part.now ≡ 50 }
     ensures { result ≡ decoded_in part.now }
 {
     if !spare_in(part) {
-        return Decoded::Refused(24);
+        return Err(24);
     }
     let rule = rule_in(part);
     if !rule_fields(rule) {
-        return Decoded::Refused(25);
+        return Err(25);
     }
-    Decoded::Sound(numbers_of(rule))
-}
-
-// What that says of record k of a table.
-pub fn placed(d: Decoded, k: usize) -> Reading
-    ensures { result ≡ said d k }
-{
-    match d {
-        Decoded::Sound(_) => Reading::Accepted,
-        Decoded::Refused(number) => Reading::Refused(number, k),
-    }
+    Ok(numbers_of(rule))
 }

@@ -6,7 +6,6 @@ ghost use Rattle.meaning.specs.Rules.{is_month, path_fits, distinct_fits, field_
 ghost use Rattle.calendar.specs.Gregorian.{month_on};
 ghost use Rattle.rules.specs.Table.{place_fits};
 
-use calendar::Month;
 use meaning::Rule;
 
 // One place of a path: a name where the place is used, else 0.
@@ -20,12 +19,10 @@ fn place_fits(used: bool, name: u16) -> bool
 fn places_fit(path: [u16; 8], steps: usize) -> bool
     ensures { result ≡ not (any (λ k. not (place_fits path steps k)) 0 8) }
 {
-    let mut k: usize = 0;
-    while k < 8 {
-        if !place_fits(k < steps, path[k]) {
+    for (k, name) in path.iter().enumerate() {
+        if !place_fits(k < steps, *name) {
             return false;
         }
-        k += 1;
     }
     true
 }
@@ -88,10 +85,7 @@ fn lengths_fit(span: u16, slide: u16, most: u16) -> bool
 fn starts_month(day: u16) -> bool
     ensures { result ≡ is_month (month_on day) }
 {
-    match calendar::month_on(day) {
-        Month::Number(_) => true,
-        Month::Absent => false,
-    }
+    calendar::month_on(day).is_some()
 }
 
 // The window by its unit: none, days, or months, for which the period begins with one.

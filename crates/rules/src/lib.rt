@@ -7,7 +7,7 @@ mod fields;
 mod references;
 
 ghost use Rattle.std.specs.Prelude.{◌≡◌, length, ◌<◌, ◌≤◌};
-ghost use Rattle.meaning.specs.declared.Reading.TheVariants.{Accepted};
+ghost use Rattle.meaning.specs.Reading.{Accepted};
 ghost use Rattle.meaning.specs.Order.{earliest, in_order};
 ghost use Rattle.meaning.specs.Block.{rule_form, image_tests};
 ghost use Rattle.meaning.specs.Rules.{rule_at, rules_of, read_rule, read_rules};
@@ -15,8 +15,8 @@ ghost use Rattle.block.specs.Fair.{Part};
 ghost use Rattle.rules.specs.Table.{Table, Row, Kept, referred_or};
 ghost use Rattle.rules.specs.Promises.{RulesPromise};
 
-use decode::{Decoded, decode, placed, rule_in};
-use meaning::{Reading, Rule};
+use decode::{decode, rule_in};
+use meaning::{Refusal, Rule};
 use references::read_references;
 
 // The most rules of a table: ten blocks of ten.
@@ -40,22 +40,25 @@ fn record_in(image: &[u8], k: usize) -> &[u8]
 
 // Record by record 24, 25: the first that does not decode ends the reading. Of each that does, its kind and the number that it
 // refers to are kept.
-fn read_records(image: &[u8], n: usize, kind: &mut [u8], referred: &mut [u16]) -> Reading
+fn read_records(
+    image: &[u8],
+    n: usize,
+    kind: &mut [u8],
+    referred: &mut [u16],
+) -> Result<(), Refusal>
     requires { Table image.now n × (n ≤ length kind.old) × (n ≤ length referred.old) }
     ensures answer { result ≡ earliest (read_rule image.now (rules_of image.now)) 0 n }
     ensures kept { result ≡ Accepted → Kept (rules_of image.now) n kind.new referred.new }
 {
-    let mut k: usize = 0;
-    while k < n {
-        let decoded = decode(record_in(image, k));
-        let Decoded::Sound(row) = decoded else {
-            return placed(decoded, k);
+    for k in 0..n {
+        let row = match decode(record_in(image, k)) {
+            Ok(row) => row,
+            Err(number) => return Err(Refusal { number, place: k }),
         };
         kind[k] = row.kind;
         referred[k] = row.referred;
-        k += 1;
     }
-    Reading::Accepted
+    Ok(())
 }
 
 // Rule k of the table.
@@ -67,20 +70,14 @@ pub fn rule_at(image: &[u8], k: usize) -> Rule
 }
 
 // What comes of reading a rule image, whatever its bytes: the blocks, then the records, then the references.
-pub fn read_rules(image: &[u8]) -> Reading
+pub fn read_rules(image: &[u8]) -> Result<(), Refusal>
     ensures { RulesPromise image.now result }
 {
-    let blocks = block::rule_blocks(image);
-    let Reading::Accepted = blocks else {
-        return blocks;
-    };
+    block::rule_blocks(image)?;
     let n = table_size(image);
     let mut kind = [0u8; LIMIT];
     let mut referred = [0u16; LIMIT];
-    let records = read_records(image, n, &mut kind, &mut referred);
-    let Reading::Accepted = records else {
-        return records;
-    };
+    read_records(image, n, &mut kind, &mut referred)?;
     read_references(&kind, &referred, n)
 }
 

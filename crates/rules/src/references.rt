@@ -4,7 +4,7 @@ ghost use Rattle.std.specs.Prelude.{◌≡◌, ◌<◌, ◌≤◌, length};
 ghost use Rattle.meaning.specs.Order.{need, earliest};
 ghost use Rattle.rules.specs.Table.{refers_in};
 
-use meaning::Reading;
+use meaning::Refusal;
 use numbers::index;
 
 // Whether rule k, if it is a reference, refers to a key or a unique of the n rules.
@@ -24,16 +24,17 @@ fn refers_well(kind: &[u8], referred: &[u16], n: usize, k: usize) -> bool
 }
 
 // 26, at its lowest record.
-pub fn read_references(kind: &[u8], referred: &[u16], n: usize) -> Reading
+pub fn read_references(kind: &[u8], referred: &[u16], n: usize) -> Result<(), Refusal>
     requires { (n ≤ length kind.now) × (n ≤ length referred.now) }
     ensures { result ≡ earliest (λ k. need (refers_in kind.now referred.now n k) 26 k) 0 n }
 {
-    let mut k: usize = 0;
-    while k < n {
+    for k in 0..n {
         if !refers_well(kind, referred, n, k) {
-            return Reading::Refused(26, k);
+            return Err(Refusal {
+                number: 26,
+                place: k,
+            });
         }
-        k += 1;
     }
-    Reading::Accepted
+    Ok(())
 }

@@ -3,7 +3,7 @@
 
 ghost use Rattle.selector.specs.Printed.{Printed};
 
-use files::Got;
+use files::Unreadable;
 use std::io;
 use std::rt::Files;
 
@@ -40,18 +40,16 @@ fn print_selector(rt: &impl Print, text: &[u8], dictionary: &[u8]) -> io::Result
 }
 
 // The whole of the file of this name, or that it cannot be read or is longer than the buffer has room for.
-fn load_whole(rt: &impl Files, name: &[u8], buf: &mut [u8]) -> Got {
-    let got = files::load(rt, name, buf);
-    if let Got::Bytes(n) = got {
-        if n < buf.len() {
-            return Got::Bytes(n);
-        }
+fn load_whole(rt: &impl Files, name: &[u8], buf: &mut [u8]) -> Result<usize, Unreadable> {
+    let n = files::load(rt, name, buf)?;
+    if n < buf.len() {
+        return Ok(n);
     }
-    Got::Unreadable
+    Err(Unreadable)
 }
 
 // The file `dictionary`, whole.
-fn load_dictionary(rt: &impl Files, buf: &mut [u8; DICTIONARY_ROOM]) -> Got {
+fn load_dictionary(rt: &impl Files, buf: &mut [u8; DICTIONARY_ROOM]) -> Result<usize, Unreadable> {
     load_whole(rt, b"dictionary", buf)
 }
 
@@ -68,7 +66,7 @@ fn print_front(
 // Prints the line on a text and the file `dictionary`, or that it cannot be read.
 fn print_on(rt: &(impl Files + Print), text: &[u8]) -> io::Result<()> {
     let mut dictionary = [0u8; DICTIONARY_ROOM];
-    let Got::Bytes(m) = load_dictionary(rt, &mut dictionary) else {
+    let Ok(m) = load_dictionary(rt, &mut dictionary) else {
         return print_unreadable(rt, b"dictionary");
     };
     print_front(rt, text, &dictionary, m)
@@ -76,7 +74,7 @@ fn print_on(rt: &(impl Files + Print), text: &[u8]) -> io::Result<()> {
 
 fn main(rt: HostRuntime) -> io::Result<()> {
     let mut text = [0u8; TEXT_ROOM];
-    let Got::Bytes(n) = load_whole(&rt, b"text", &mut text) else {
+    let Ok(n) = load_whole(&rt, b"text", &mut text) else {
         return print_unreadable(&rt, b"text");
     };
     print_on(&rt, spelling::front(&text, n))

@@ -11,15 +11,14 @@ use borrow.Author.Tests.{lt-ltb, le-ltb}
 use lib.Dec.{eqb}
 use lib.ListN.{length, take, drop, get_or, length-drop, drop_of_length-le}
 use lib.Seq.{drop-cons, get_or-drop}
-use Rattle.meaning.specs.declared.Found.TheVariants.{At, Nothing}
 use Rattle.meaning.specs.Walk.{first}
 use Rattle.meaning.proofs.Basics.{went, le_or_lt}
 use Rattle.meaning.proofs.Walks.{first-at, first-none}
-use Rattle.selectors.specs.declared.dictionary.Line.TheVariants as L
-use Rattle.selectors.specs.declared.dictionary.Checked.TheVariants as C
+use Rattle.std.specs.Prelude.{Result, Ok, None, Some}
+use Rattle.typed.specs.declared.BadLine.{BadLine}
 use Rattle.selectors.specs.Parts.{up_to, later, parts, each, same}
 use Rattle.selectors.specs.Dictionary.{is_entry, name_of, ended, line_of}
-use Rattle.selectors.specs.Lining.{line_at, again, sifts, Sifted, Took, good_for, checked_by, checked_for}
+use Rattle.selectors.specs.Lining.{bad_at, line_at, again, sifts, Sifted, Took, good_for, checked_by, checked_for}
 use Rattle.selectors.specs.Sieve.{key_of, holds}
 use Rattle.selectors.proofs.Lines.{ReadAs, line-bad}
 use Rattle.selectors.proofs.Separating.{each-less}
@@ -97,16 +96,16 @@ module _ {p : ℕ → Bool} {d : List ℕ} {at k : ℕ} {sieve : List ℕ} (u : 
   upto_fits = omega (arith, u.sifted.entries.many, later-most d)
 
   -- a bad line k is what comes of all
-  bad-here : good_for p d k ≡ false → C.Bad k ≡ checked_for p d
+  bad-here : good_for p d k ≡ false → bad_at k ≡ checked_for p d
   unfolding checked_for checked_by
   bad-here b =
       let many = u.sifted.entries.many in
-      let found : first (λ i. not (good_for p d i)) 0 (suc (ended d)) ≡ At k =
+      let found : first (λ i. not (good_for p d i)) 0 (suc (ended d)) ≡ Some k =
       first-at (λ i. not (good_for p d i)) k 0 (suc (ended d)) (omega arith) (omega arith) (rw b) (λ j l h. rw (u.good j h)) in
       rw found
 
   -- the end: all lines are good
-  pub upto_end : length d ≤ at → C.Sound k ≡ checked_for p d
+  pub upto_end : length d ≤ at → Ok k ≡ checked_for p d
   unfolding checked_for checked_by good_for up_to later same
   upto_end h =
       let none : drop at d ≡ [] = drop_of_length-le d h in
@@ -114,10 +113,10 @@ module _ {p : ℕ → Bool} {d : List ℕ} {at k : ℕ} {sieve : List ℕ} (u : 
       let all : k ≡ ended d = omega (arith, u.sifted.entries.many) in
       let last : good_for p d k ≡ true = rw (le-ltb k (ended d) (omega arith), line-here, none) in
       let at_most : (j : ℕ) → j ≤ k → (j ≡ k) ⊎ (j < k) = λ j l. eq-or-lt_of_le l in
-      let found : first (λ i. not (good_for p d i)) 0 (suc (ended d)) ≡ Nothing =
+      let found : first (λ i. not (good_for p d i)) 0 (suc (ended d)) ≡ None =
       first-none (λ i. not (good_for p d i)) 0 (suc (ended d))
       (λ j a b. rw (⊎_elim (λ q. ap (good_for p d) q ∙ last) (λ lt. u.good j lt) (at_most j (omega arith)))) in
-      rw found (ap C.Sound all)
+      rw found (ap {B = Result ℕ BadLine} Ok all)
 
   -- behind the last line feed stands something, so that the line there is bad
   tail_bad : ended d ≤ k → at < length d → good_for p d k ≡ false
@@ -128,7 +127,7 @@ module _ {p : ℕ → Bool} {d : List ℕ} {at k : ℕ} {sieve : List ℕ} (u : 
       rw (le-ltb k (ended d) all, line-here) (tail_some (drop at d) some left)
 
   -- an ended line that is none of the form is no entry, and bad
-  entry_bad : k < ended d → line_at d at ≡ L.Bad → good_for p d k ≡ false
+  entry_bad : k < ended d → line_at d at ≡ None → good_for p d k ≡ false
   unfolding good_for
   entry_bad lt e =
       rw (lt-ltb k (ended d) lt, line-here, no_entry (later 10 (drop at d)) refl)
@@ -138,7 +137,7 @@ module _ {p : ℕ → Bool} {d : List ℕ} {at k : ℕ} {sieve : List ℕ} (u : 
       no_entry (l ∷ ls) q = line-bad d at e q
 
   -- a line that is none of the form: an ended one is no entry, and behind the last line feed stands something
-  pub upto_bad : at < length d → line_at d at ≡ L.Bad → C.Bad k ≡ checked_for p d
+  pub upto_bad : at < length d → line_at d at ≡ None → bad_at k ≡ checked_for p d
   upto_bad h e =
       ⊎_elim
       (λ all. bad-here (tail_bad all h))
@@ -160,7 +159,7 @@ module _ {p : ℕ → Bool} {d : List ℕ} {at k : ℕ} {sieve : List ℕ} (u : 
     good_here = rw (lt-ltb k (ended d) line-ended, name-here, line-here, r.entry)
 
     -- a line whose key passes, and whose name a line above it has
-    pub upto_twice : again p (take k (parts 10 d)) (take (e - at) (drop at d)) ≡ true → C.Bad k ≡ checked_for p d
+    pub upto_twice : again p (take k (parts 10 d)) (take (e - at) (drop at d)) ≡ true → bad_at k ≡ checked_for p d
     upto_twice h = bad-here (good_here ∙ ap not h)
 
     -- any other line, whose key, if it passes, is put in

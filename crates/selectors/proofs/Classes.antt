@@ -9,30 +9,28 @@ use native.Mathlib.Omega.{arith}
 use borrow.Author.Tests.{ltb-true, eqb-true, lt-ltb, le-ltb, eq-eqb, not-true, not-false}
 use lib.Dec.{eqb, ltb}
 use lib.ListN.{take}
-use Rattle.meaning.specs.declared.Found.{Found}
-use Rattle.meaning.specs.declared.Found.TheVariants.{At, Nothing}
-use Rattle.meaning.specs.Walk.{first, on_found}
+use Rattle.meaning.specs.Walk.{first, on_found, Found}
 use Rattle.meaning.proofs.Basics.{went, le_or_lt, tests_same, or_cases, or_l, or_r}
 use Rattle.meaning.proofs.Walks.{first-at, first-none, first-nothing, first_found, first-same}
-use Rattle.selectors.specs.declared.dictionary.Checked.{Checked}
-use Rattle.selectors.specs.declared.dictionary.Checked.TheVariants as C
+use Rattle.std.specs.Prelude.{Result, Ok, Err, Some, None}
+use Rattle.typed.specs.declared.BadLine.{BadLine}
 use Rattle.selectors.specs.Parts.{parts, same}
 use Rattle.selectors.specs.Dictionary.{is_entry, name_of, ended, line_of, has, good_line, first_bad_line}
-use Rattle.selectors.specs.Lining.{of_class, again, good_for, checked_by, checked_for, lower, checked}
+use Rattle.selectors.specs.Lining.{of_class, again, good_for, bad_at, checked_by, checked_for, lower, checked}
 use Rattle.selectors.specs.Sieve.{key_of}
 
-module _ {a b : Checked} {i : ℕ} (e : a ≡ C.Bad i) where
+module _ {a b : Result ℕ BadLine} {i : BadLine} (e : a ≡ Err i) where
   -- a bad line is lower than none
-  pub lower-lone : {n : ℕ} → b ≡ C.Sound n → C.Bad i ≡ lower a b
+  pub lower-lone : {n : ℕ} → b ≡ Ok n → Err i ≡ lower a b
   lower-lone f = rw e (rw f)
 
   -- the lower of two is the first, where it is below the second
-  pub lower-less : {j : ℕ} → b ≡ C.Bad j → i < j → C.Bad i ≡ lower a b
-  lower-less {j} f l = rw e (rw f (rw (lt-ltb i j l)))
+  pub lower-less : {j : BadLine} → b ≡ Err j → i.line < j.line → Err i ≡ lower a b
+  lower-less {j} f l = rw e (rw f (rw (lt-ltb i.line j.line l)))
 
   -- it is the second, where the first is not below it
-  pub lower-more : {j : ℕ} → b ≡ C.Bad j → j ≤ i → C.Bad j ≡ lower a b
-  lower-more {j} f l = rw e (rw f (rw (le-ltb i j l)))
+  pub lower-more : {j : BadLine} → b ≡ Err j → j.line ≤ i.line → Err j ≡ lower a b
+  lower-more {j} f l = rw e (rw f (rw (le-ltb i.line j.line l)))
 
 -- h passes what both f and g pass
 module _ (f g h : ℕ → Bool) (n : ℕ) (Each-both : (k : ℕ) → h k ≡ (f k && g k)) where
@@ -49,30 +47,30 @@ module _ (f g h : ℕ → Bool) (n : ℕ) (Each-both : (k : ℕ) → h k ≡ (f 
   bad-second k b = ⊎_elim (λ y. rw (Each-both k) (rw y (rw (not-true (g k) b)))) (λ o. rw (Each-both k) (rw o)) (went (f k))
 
   -- line k is what comes of the lines, where those above it pass both
-  lowest : (k : ℕ) → k < suc n → not (h k) ≡ true → ((j : ℕ) → j < k → not (f j) ≡ false) → ((j : ℕ) → j < k → not (g j) ≡ false) → C.Bad k ≡ checked_by h n
+  lowest : (k : ℕ) → k < suc n → not (h k) ≡ true → ((j : ℕ) → j < k → not (f j) ≡ false) → ((j : ℕ) → j < k → not (g j) ≡ false) → bad_at k ≡ checked_by h n
   unfolding checked_by
   lowest k l b p q = rw (first-at (λ j. not (h j)) k 0 (suc n) (omega arith) (omega arith) b (λ j a z. good_both j (p j z) (q j z)))
 
   -- the lower of what each walk finds is what the walk of both finds
   lower-found :
       (a b : Found) → first (λ k. not (f k)) 0 (suc n) ≡ a → first (λ k. not (g k)) 0 (suc n) ≡ b
-      → lower (on_found a C.Bad (C.Sound n)) (on_found b C.Bad (C.Sound n)) ≡ checked_by h n
+      → lower (on_found a bad_at (Ok n)) (on_found b bad_at (Ok n)) ≡ checked_by h n
   unfolding checked_by
-  lower-found Nothing Nothing s t =
+  lower-found None None s t =
       let p = first-nothing (λ k. not (f k)) 0 (suc n) s in
       let q = first-nothing (λ k. not (g k)) 0 (suc n) t in
       rw (first-none (λ j. not (h j)) 0 (suc n) (λ k a z. good_both k (p k a z) (q k a z)))
-  lower-found Nothing (At j) s t =
+  lower-found None (Some j) s t =
       let p = first-nothing (λ k. not (f k)) 0 (suc n) s in
       let q = first_found (λ k. not (g k)) 0 (suc n) j t in
       let l : j < suc n = omega (arith, q.below) in
       lowest j l (bad-second j q.passes) (λ k z. p k (omega arith) (omega arith)) (λ k z. q.before k (omega arith) z)
-  lower-found (At i) Nothing s t =
+  lower-found (Some i) None s t =
       let p = first_found (λ k. not (f k)) 0 (suc n) i s in
       let q = first-nothing (λ k. not (g k)) 0 (suc n) t in
       let l : i < suc n = omega (arith, p.below) in
       lowest i l (bad-first i p.passes) (λ k z. p.before k (omega arith) z) (λ k z. q k (omega arith) (omega arith))
-  lower-found (At i) (At j) s t =
+  lower-found (Some i) (Some j) s t =
       let p = first_found (λ k. not (f k)) 0 (suc n) i s in
       let q = first_found (λ k. not (g k)) 0 (suc n) j t in
       ⊎_elim
@@ -129,7 +127,7 @@ unfoldable pub below : ℕ → ℕ → ℕ → Bool
 below c classes key = ltb (key % classes) c
 
 -- what comes of the first class comes of those below 1
-pub class-first : (classes : ℕ) (d : List ℕ) {r : Checked} → r ≡ checked_for (of_class 0 classes) d → r ≡ checked_for (below 1 classes) d
+pub class-first : (classes : ℕ) (d : List ℕ) {r : Result ℕ BadLine} → r ≡ checked_for (of_class 0 classes) d → r ≡ checked_for (below 1 classes) d
 unfolding of_class below
 class-first classes d e =
     e ∙ for_same (of_class 0 classes) (below 1 classes) d (λ key. first-class (key % classes))
@@ -140,7 +138,7 @@ class-first classes d e =
 
 -- with one class more, the lower of what came of those below it and of itself comes of them
 pub class-next :
-    (c classes : ℕ) (d : List ℕ) {a b r : Checked} → a ≡ checked_for (below c classes) d → b ≡ checked_for (of_class c classes) d → r ≡ lower a b
+    (c classes : ℕ) (d : List ℕ) {a b r : Result ℕ BadLine} → a ≡ checked_for (below c classes) d → b ≡ checked_for (of_class c classes) d → r ≡ lower a b
     → r ≡ checked_for (below (c + 1) classes) d
 unfolding of_class below
 class-next c classes d {a} {b} {r} ea eb er =
@@ -156,7 +154,7 @@ class-next c classes d {a} {b} {r} ea eb er =
         (λ y. lt-ltb x (c + 1) (⊎_elim (λ t. omega (arith, ltb-true x c t)) (λ t. omega (arith, eqb-true x c t)) (or_cases old new y)))
 
 -- where all classes are below, what came of them is what comes of all lines
-pub class-last : (c classes : ℕ) (d : List ℕ) {r : Checked} → 0 < classes → classes ≤ c → r ≡ checked_for (below c classes) d → r ≡ checked d
+pub class-last : (c classes : ℕ) (d : List ℕ) {r : Result ℕ BadLine} → 0 < classes → classes ≤ c → r ≡ checked_for (below c classes) d → r ≡ checked d
 unfolding below
 class-last c classes d some all e =
     e ∙ for_all (below c classes) d (λ key. let l = mod-lt key {m = classes} some in lt-ltb (key % classes) c (omega arith))

@@ -4,11 +4,10 @@ use mathlib.Core.List.{List, [], ◌∷◌, ◌++◌, map}
 use Prim.Native.Nat.{ℕ}
 use Prim.Native.String.{String}
 use lib.ListN.{length}
-use Rattle.meaning.specs.declared.Found.{Found}
-use Rattle.meaning.specs.declared.Found.TheVariants.{At, Nothing}
-use Rattle.meaning.specs.Walk.{first}
+use Rattle.std.specs.Prelude.{Some, None, Ok}
+use Rattle.meaning.specs.Walk.{first, Found}
 use Rattle.spelling.specs.Spelled.{word}
-use Rattle.selectors.specs.declared.Selected.TheVariants.{Path, Refused}
+use Rattle.meaning.specs.Reading.{Refused}
 use Rattle.selectors.specs.declared.Selector.{Selector}
 use Rattle.selectors.specs.Parts.{up_to, later, each, same}
 use Rattle.selectors.specs.Profile.{is_letter, is_first, is_inner, is_name, is_star, is_step, steps, in_profile}
@@ -20,10 +19,10 @@ use Rattle.selectors.proofs.Unique.{selector_of}
 
 -- the answer of three tests, each the place at which it stops or that it passes
 abbrev pub threefold : Found → Found → Found → ℕ → List ℕ → Selector
-threefold (At p) bad lost n numbers = selector_of (Refused 27 p) no_path
-threefold Nothing (At k) lost n numbers = selector_of (Refused 31 k) no_path
-threefold Nothing Nothing (At p) n numbers = selector_of (Refused 28 p) no_path
-threefold Nothing Nothing Nothing n numbers = selector_of (Path n) numbers
+threefold (Some p) bad lost n numbers = selector_of (Refused 27 p) no_path
+threefold None (Some k) lost n numbers = selector_of (Refused 31 k) no_path
+threefold None None (Some p) n numbers = selector_of (Refused 28 p) no_path
+threefold None None None n numbers = selector_of (Ok n) numbers
 
 -- the answer on a text and a dictionary, worked out
 unfoldable pub worked_out : List ℕ → List ℕ → Selector
@@ -36,10 +35,10 @@ comes-worked_out text d = go (scan 0 8 0 text) (first_bad_line d) (unknown_from 
   where
     go : (p k u : Found) → Right text p → first_bad_line d ≡ k → unknown_from (lines d) 0 (steps text) ≡ u
         → SelectorPromise text d (threefold p k u (length (steps text)) (path_of (lines d) (steps text)))
-    go (At p) k u r e f = outside p r refl refl
-    go Nothing (At k) u r e f = unsound k r e refl refl
-    go Nothing Nothing (At p) r e f = unknown p r e f refl refl
-    go Nothing Nothing Nothing r e f = path r e f refl refl
+    go (Some p) k u r e f = outside p r refl refl
+    go None (Some k) u r e f = unsound k r e refl refl
+    go None None (Some p) r e f = unknown p r e f refl refl
+    go None None None r e f = path r e f refl refl
 
 -- an example: a text, a dictionary and what comes of them
 pub record Example : Type 0 where
@@ -49,7 +48,7 @@ pub record Example : Type 0 where
 
 -- a path of as many steps, by its eight numbers
 abbrev pub leads : String → String → ℕ → List ℕ → Example
-leads text d n numbers = record { text = text; dictionary = d; result = selector_of (Path n) numbers }
+leads text d n numbers = record { text = text; dictionary = d; result = selector_of (Ok n) numbers }
 
 -- a refusal, by its number and its place
 abbrev pub stops : String → String → ℕ → ℕ → Example

@@ -9,12 +9,11 @@ use borrow.Author.Tests.{leb-true, lt-ltb}
 use lib.Dec.{ltb}
 use lib.ListN.{length, take, drop, set, replicate, length-append, length-map, length-drop, length-set}
 use lib.Seq.{set_at, drop-drop}
-use Rattle.meaning.specs.declared.Found.{Found}
-use Rattle.meaning.specs.declared.Found.TheVariants.{At, Nothing}
-use Rattle.meaning.specs.Walk.{on_found}
+use Rattle.std.specs.Prelude.{Some, None, Ok, Result}
+use Rattle.meaning.specs.Walk.{on_found, Found}
 use Rattle.meaning.proofs.Basics.{went, and_r}
-use Rattle.selectors.specs.declared.Selected.{Selected}
-use Rattle.selectors.specs.declared.Selected.TheVariants.{Path, Refused}
+use Rattle.meaning.specs.declared.Refusal.{Refusal}
+use Rattle.meaning.specs.Reading.{Refused}
 use Rattle.selectors.specs.Parts.{up_to, later, parts, each}
 use Rattle.selectors.specs.Profile.{is_star, is_step, steps, in_profile}
 use Rattle.selectors.specs.Dictionary.{is_entry, number_in}
@@ -56,14 +55,14 @@ map_more f (x ∷ ss) s = ap (λ l. f x ∷ l) (map_more f ss s)
 -- what an answer of n steps, with numbers p beside it, comes of
 module _ (n : ℕ) (p : List ℕ) where
   -- a refusal comes of a step that is unknown, and has no path
-  answered_refused : (u : Found) {x i : ℕ} → Refused x i ≡ on_found u (Refused 28) (Path n) → no_path ≡ on_found u (λ k. no_path) p
-  answered_refused (At k) e = refl
-  answered_refused Nothing e = let wrong : ◌≡◌ {A = ℕ} 0 1 = cc in absurd (omega arith)
+  answered_refused : (u : Found) {x i : ℕ} → Refused x i ≡ on_found u (Refused 28) (Ok n) → no_path ≡ on_found u (λ k. no_path) p
+  answered_refused (Some k) e = refl
+  answered_refused None e = let wrong : ◌≡◌ {A = ℕ} 0 1 = cc in absurd (omega arith)
 
   -- a path comes of steps that are all known
-  answered_path : (u : Found) {m : ℕ} → Path m ≡ on_found u (Refused 28) (Path n) → p ≡ on_found u (λ k. no_path) p
-  answered_path (At k) e = let wrong : ◌≡◌ {A = ℕ} 0 1 = cc in absurd (omega arith)
-  answered_path Nothing e = refl
+  answered_path : (u : Found) {m : ℕ} → Ok m ≡ on_found u (Refused 28) (Ok n) → p ≡ on_found u (λ k. no_path) p
+  answered_path (Some k) e = let wrong : ◌≡◌ {A = ℕ} 0 1 = cc in absurd (omega arith)
+  answered_path None e = refl
 
 -- k steps of the text are done and their numbers stand in the path; the others begin at a place, and an unknown step is one of them
 pub record Filling (text : List ℕ) (ls : List (List ℕ)) (path : List ℕ) (at k : ℕ) : Type 0 where
@@ -100,7 +99,7 @@ module _ {text : List ℕ} {ls : List (List ℕ)} {path : List ℕ} {at k : ℕ}
 
     module _ (sound : each is_entry ls ≡ true) where
       -- where it is unknown it is the first that is
-      fares_unknown : number ≡ 0 → unknown_from ls 0 (steps text) ≡ At at
+      fares_unknown : number ≡ 0 → unknown_from ls 0 (steps text) ≡ Some at
       unfolding unknown_from
       fares_unknown none =
           let lost : is_known ls (up_to 47 (drop at text)) ≡ false = known ls _ sound ∙ rw (← step_is, none) refl in
@@ -122,16 +121,16 @@ module _ {text : List ℕ} {ls : List (List ℕ)} {path : List ℕ} {at k : ℕ}
           }
 
       -- behind the last step, if it is known, the path is whole
-      pub filling_last : in_profile text ≡ true → (number ≡ 0 → ⊥) → end ≡ length text → Filled text ls (Path (k + 1)) (set path k number)
+      pub filling_last : in_profile text ≡ true → (number ≡ 0 → ⊥) → end ≡ length text → Filled text ls (Ok (k + 1)) (set path k number)
       unfolding unknown_from
       filling_last few some past =
           let step = up_to 47 (drop at text) in
           let none : later 47 (drop at text) ≡ [] = part_last 47 (drop at text) (omega (arith, length-drop at text)) in
           let all : f.done ++ (step ∷ []) ≡ steps text = rw none at f.all in
-          let fares : Nothing ≡ unknown_from ls 0 (steps text) = rw none at (fares_on some) in
+          let fares : None ≡ unknown_from ls 0 (steps text) = rw none at (fares_on some) in
           let many : length (f.done ++ (step ∷ [])) ≡ k + 1 = omega (arith, length-append f.done (step ∷ []), f.many) in
           record {
-            answer = rw (← fares) (ap Path (sym many ∙ ap length all));
+            answer = rw (← fares) (ap Ok (sym many ∙ ap length all));
             path = λ n g. rw step_is (numbers_more (filling_room few) step ∙ path-of_lem ls (f.done ++ (step ∷ [])) many ∙ ap (path_of ls) all);
           }
 
@@ -151,11 +150,11 @@ module _ {text : List ℕ} {ls : List (List ℕ)} {path : List ℕ} {at k : ℕ}
             numbers = rw step_is (numbers_more (filling_room few) (up_to 47 (drop at text)));
           }
 
-module _ {text : List ℕ} {ls : List (List ℕ)} {r : Selected} {numbers : List ℕ} (f : Filled text ls r numbers) where
+module _ {text : List ℕ} {ls : List (List ℕ)} {r : Result ℕ Refusal} {numbers : List ℕ} (f : Filled text ls r numbers) where
   -- beside a refusal stands no path
   pub looks_refused : {x i : ℕ} → r ≡ Refused x i → LooksUp text ls (record { answer = r; path = no_path })
   looks_refused e = record { answer = f.answer; path = answered_refused (length (steps text)) (path_of ls (steps text)) (unknown text ls) (sym e ∙ f.answer) }
 
   -- beside a path stand its numbers
-  pub looks_path : {n : ℕ} → r ≡ Path n → LooksUp text ls (record { answer = r; path = numbers })
+  pub looks_path : {n : ℕ} → r ≡ Ok n → LooksUp text ls (record { answer = r; path = numbers })
   looks_path {n} e = record { answer = f.answer; path = f.path n e ∙ answered_path (length (steps text)) (path_of ls (steps text)) (unknown text ls) (sym e ∙ f.answer) }

@@ -7,28 +7,28 @@ use Prim.Native.Nat.{ℕ, suc, ◌+◌, ◌≤◌, ◌<◌}
 use native.Mathlib.Omega.{arith}
 use borrow.Author.Tests.{not-true, not-false}
 use lib.ListN.{length}
-use Rattle.meaning.specs.declared.Found.TheVariants.{At, Nothing}
+use Rattle.std.specs.Prelude.{Some, None, Ok}
 use Rattle.meaning.specs.Answer.{Told}
 use Rattle.meaning.proofs.Basics.{went, and_l, and_r}
 use Rattle.meaning.proofs.Walks.{first_found}
-use Rattle.selectors.specs.declared.Selected.TheVariants.{Path, Refused}
+use Rattle.meaning.specs.Reading.{Refused}
 use Rattle.selectors.specs.Parts.{each}
 use Rattle.selectors.specs.Profile.{steps, in_profile, Outside}
 use Rattle.selectors.specs.Dictionary.{ended, lines, good_line, first_bad_line}
 use Rattle.selectors.specs.Selecting.{is_known, unknown_from, path_of, no_path, tell_selected, Comes, outside, unsound, unknown, path}
 
 -- where no step is unknown each is known
-pub known_each : (ls : List (List ℕ)) (at : ℕ) (ss : List (List ℕ)) → unknown_from ls at ss ≡ Nothing → each (is_known ls) ss ≡ true
+pub known_each : (ls : List (List ℕ)) (at : ℕ) (ss : List (List ℕ)) → unknown_from ls at ss ≡ None → each (is_known ls) ss ≡ true
 unfolding unknown_from each
 known_each ls at [] e = refl
 known_each ls at (s ∷ ss) e =
     ⊎_elim
     (λ t. rw t (known_each ls (at + length s + 1) ss (rw t at e)))
-    (λ t. let lost : At at ≡ Nothing = rw t at e in let wrong : ◌≡◌ {A = ℕ} 0 1 = cc in absurd (omega arith))
+    (λ t. let lost : Some at ≡ None = rw t at e in let wrong : ◌≡◌ {A = ℕ} 0 1 = cc in absurd (omega arith))
     (went (is_known ls s))
 
 -- and the other way round
-pub each-known : (ls : List (List ℕ)) (at : ℕ) (ss : List (List ℕ)) → each (is_known ls) ss ≡ true → unknown_from ls at ss ≡ Nothing
+pub each-known : (ls : List (List ℕ)) (at : ℕ) (ss : List (List ℕ)) → each (is_known ls) ss ≡ true → unknown_from ls at ss ≡ None
 unfolding unknown_from each
 each-known ls at [] e = refl
 each-known ls at (s ∷ ss) e =
@@ -37,11 +37,11 @@ each-known ls at (s ∷ ss) e =
 -- what is accepted: a text of the profile, with a dictionary that has no bad line and each name
 pub record Accepts (text d : List ℕ) : Type 0 where
   pub inside : in_profile text ≡ true
-  pub sound : first_bad_line d ≡ Nothing
+  pub sound : first_bad_line d ≡ None
   pub known : each (is_known (lines d)) (steps text) ≡ true
 
 -- a path's numbers are not a refusal's
-apart : (n x i : ℕ) → tell_selected (Path n) ≡ tell_selected (Refused x i) → ⊥
+apart : (n x i : ℕ) → tell_selected (Ok n) ≡ tell_selected (Refused x i) → ⊥
 unfolding tell_selected
 apart n x i e = let wrong : ◌≡◌ {A = ℕ} 0 2 = ap (λ (t : Told). t.outcome) e in omega arith
 
@@ -52,7 +52,7 @@ pub record Reads (text d : List ℕ) (n : ℕ) (numbers : List ℕ) : Type 0 whe
   pub path : numbers ≡ path_of (lines d) (steps text)
 
 -- a path comes of what is accepted, and is its steps' numbers
-pub reads : {text d : List ℕ} {n : ℕ} {t : Told} {numbers : List ℕ} → Comes text d t numbers → t ≡ tell_selected (Path n) → Reads text d n numbers
+pub reads : {text d : List ℕ} {n : ℕ} {t : Told} {numbers : List ℕ} → Comes text d t numbers → t ≡ tell_selected (Ok n) → Reads text d n numbers
 unfolding tell_selected
 reads {text} {d} {n} (outside p a e f) g = absurd (apart n 27 p (sym g ∙ e))
 reads {text} {d} {n} (unsound k i a e f) g = absurd (apart n 31 k (sym g ∙ e))
@@ -71,7 +71,7 @@ pub record FirstBad (d : List ℕ) (k : ℕ) : Type 0 where
   pub above : (j : ℕ) → j < k → good_line d j ≡ true
 
 -- what is found is that line
-first-bad : (d : List ℕ) (k : ℕ) → first_bad_line d ≡ At k → FirstBad d k
+first-bad : (d : List ℕ) (k : ℕ) → first_bad_line d ≡ Some k → FirstBad d k
 unfolding first_bad_line
 first-bad d k e =
     let found = first_found (λ j. not (good_line d j)) 0 (suc (ended d)) k e in
@@ -81,7 +81,7 @@ first-bad d k e =
 pub data Refuses (text d : List ℕ) (x i : ℕ) : Type 0 where
   outside_at : x ≡ 27 → Outside text i → Refuses text d x i
   unsound_at : x ≡ 31 → in_profile text ≡ true → FirstBad d i → Refuses text d x i
-  unknown_at : x ≡ 28 → in_profile text ≡ true → first_bad_line d ≡ Nothing → unknown_from (lines d) 0 (steps text) ≡ At i → Refuses text d x i
+  unknown_at : x ≡ 28 → in_profile text ≡ true → first_bad_line d ≡ None → unknown_from (lines d) 0 (steps text) ≡ Some i → Refuses text d x i
 
 -- a refusal has its ground, and no path
 pub refuses : {text d : List ℕ} {x i : ℕ} {t : Told} {numbers : List ℕ} → Comes text d t numbers → t ≡ tell_selected (Refused x i) → Refuses text d x i × (numbers ≡ no_path)

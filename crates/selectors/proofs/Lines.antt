@@ -1,5 +1,5 @@
 -- One line of a dictionary: a name, a space, a number and a line feed; where it is read as an entry, and where it is not.
-use mathlib.Core.Path.{◌≡◌, refl, sym, ap, ◌∙◌}
+use mathlib.Core.Path.{◌≡◌, refl, sym, ap, subst, ◌∙◌}
 use mathlib.Core.Logic.{⊎_elim}
 use mathlib.Core.Bool.{Bool, true, false, ◌&&◌}
 use mathlib.Core.List.{List, [], ◌∷◌, ◌++◌, append_assoc}
@@ -10,10 +10,9 @@ use lib.Dec.{leb}
 use lib.ListN.{length, take, drop}
 use lib.Seq.{take_at}
 use Rattle.meaning.proofs.Basics.{went, never, clear, and_l, and_r, both}
-use Rattle.typed.specs.declared.scan.Scan.{Scan}
-use Rattle.typed.specs.declared.scan.Scan.TheVariants as N
+use Rattle.std.specs.Prelude.{Option, Some, None}
 use Rattle.typed.specs.Numeral.{is_digit, stands, number_at}
-use Rattle.selectors.specs.declared.dictionary.Line.TheVariants as L
+use Rattle.selectors.specs.declared.dictionary.Entry.{Entry}
 use Rattle.selectors.specs.Parts.{up_to, later, parts, each}
 use Rattle.selectors.specs.Profile.{is_letter, is_inner, is_name}
 use Rattle.selectors.specs.Dictionary.{spelt, is_number, is_pair, is_entry, name_of, number_of}
@@ -111,7 +110,7 @@ record Laid (d : List ℕ) (at e v next : ℕ) : Type 0 where
 module _ (d : List ℕ) (at : ℕ) where
   -- each test of the code passed
   line-found :
-      {e v next : ℕ} → e ≡ at + run (drop at d) → begins (drop at d) ≡ true → stands d e 32 ≡ true → number_at d (e + 1) 65534 10 ≡ N.Number v next → 1 ≤ v → Laid d at e v next
+      {e v next : ℕ} → e ≡ at + run (drop at d) → begins (drop at d) ≡ true → stands d e 32 ≡ true → number_at d (e + 1) 65534 10 ≡ Some (v, next) → 1 ≤ v → Laid d at e v next
   line-found {e} {v} {next} ends b s n least =
       let r = run-front (drop at d) in
       let m = number-scanned d (e + 1) n in
@@ -136,12 +135,12 @@ module _ (d : List ℕ) (at : ℕ) where
       }
 
   -- an entry was read as one
-  line-entry : {e v next : ℕ} → line_at d at ≡ L.Entry e v next → Laid d at e v next
+  line-entry : {l : Entry} → line_at d at ≡ Some l → Laid d at l.end l.number l.next
   unfolding line_at
-  line-entry {e} {v} {next} q =
+  line-entry {l} q =
       ⊎_elim
       (λ t. number (number_at d (end + 1) 65534 10) refl (and_l first space t) (and_r first space t) (rw t at q))
-      (λ t. let wrong : L.Bad ≡ L.Entry e v next = rw t at q in let z : ◌≡◌ {A = ℕ} 0 1 = cc in absurd (omega arith))
+      (λ t. let wrong : None ≡ Some l = rw t at q in let z : ◌≡◌ {A = ℕ} 0 1 = cc in absurd (omega arith))
       (went (first && space))
     where
       end : ℕ
@@ -153,18 +152,16 @@ module _ (d : List ℕ) (at : ℕ) where
       space : Bool
       space = stands d end 32
 
-      number : (s : Scan) → number_at d (end + 1) 65534 10 ≡ s → first ≡ true → space ≡ true → on_number end s ≡ L.Entry e v next → Laid d at e v next
-      number (N.Number w n) f b s g =
+      number : (s : Option (ℕ × ℕ)) → number_at d (end + 1) 65534 10 ≡ s → first ≡ true → space ≡ true → on_number end s ≡ Some l → Laid d at l.end l.number l.next
+      number (Some (w, n)) f b s g =
           ⊎_elim
           (λ t.
-          let is : L.Entry end w n ≡ L.Entry e v next = rw t at g in
-          let i : end ≡ e = cc in
-          let j : w ≡ v = cc in
-          let k : n ≡ next = cc in
-          rw (← i, ← j, ← k) (line-found refl b s f (leb-true 1 w t)))
-          (λ t. let wrong : L.Bad ≡ L.Entry e v next = rw t at g in let z : ◌≡◌ {A = ℕ} 0 1 = cc in absurd (omega arith))
+          let is : ◌≡◌ {A = Option Entry} (Some (record { end = end; number = w; next = n })) (Some l) = rw t at g in
+          let same : ◌≡◌ {A = Entry} (record { end = end; number = w; next = n }) l = cc in
+          subst (λ (x : Entry). Laid d at x.end x.number x.next) same (line-found refl b s f (leb-true 1 w t)))
+          (λ t. let wrong : None ≡ Some l = rw t at g in let z : ◌≡◌ {A = ℕ} 0 1 = cc in absurd (omega arith))
           (went (leb 1 w))
-      number N.Bad f b s g = let wrong : ◌≡◌ {A = ℕ} 0 1 = cc in absurd (omega arith)
+      number None f b s g = let wrong : ◌≡◌ {A = ℕ} 0 1 = cc in absurd (omega arith)
 
 -- what a line that was read as an entry is: its bounds, its name, its number, and the lines behind it
 pub record ReadAs (d : List ℕ) (at e v next : ℕ) : Type 0 where
@@ -177,25 +174,28 @@ pub record ReadAs (d : List ℕ) (at e v next : ℕ) : Type 0 where
   pub rest : parts 10 (drop next d) ≡ later 10 (drop at d)
 
 -- a line that was read as an entry is one
-pub line_read : (d : List ℕ) (at : ℕ) {e v next : ℕ} → line_at d at ≡ L.Entry e v next → ReadAs d at e v next
-line_read d at {e} {v} {next} q =
+pub line_read : (d : List ℕ) (at : ℕ) {line : Entry} → line_at d at ≡ Some line → ReadAs d at line.end line.number line.next
+line_read d at {line} q =
+    let e = line.end in
+    let v = line.number in
+    let next = line.next in
     let l = line-entry d at q in
     let whole = l.name ++ (32 ∷ l.digits) in
     let free = pair-free l.name l.digits l.named l.numbered in
     let joined : drop at d ≡ whole ++ (10 ∷ drop next d) = l.joined ∙ sym (append_assoc l.name (32 ∷ l.digits) (10 ∷ drop next d)) in
-    let line : up_to 10 (drop at d) ≡ whole = ap (up_to 10) joined ∙ first-joined 10 whole (drop next d) free in
+    let text : up_to 10 (drop at d) ≡ whole = ap (up_to 10) joined ∙ first-joined 10 whole (drop next d) free in
     let size : length l.name ≡ e - at = omega (arith, l.ends) in
     let apart = each-other is_inner 32 space_apart l.name (name-inner l.name l.named) in
     record {
       begun = omega (arith, l.some, l.ends);
       before = omega (arith, l.goes);
       inside = l.inside;
-      entry = ap is_entry line ∙ pair-entry l.name l.digits l.named l.numbered;
+      entry = ap is_entry text ∙ pair-entry l.name l.digits l.named l.numbered;
       name =
           ap (take (e - at)) l.joined
           ∙ take_at l.name (32 ∷ (l.digits ++ (10 ∷ drop next d))) (e - at) size
-          ∙ sym (ap name_of line ∙ first-joined 32 l.name l.digits apart);
-      number = ap number_of line ∙ pair-number l.name l.digits l.named l.numbered ∙ sym l.value;
+          ∙ sym (ap name_of text ∙ first-joined 32 l.name l.digits apart);
+      number = ap number_of text ∙ pair-number l.name l.digits l.named l.numbered ∙ sym l.value;
       rest = sym (ap (later 10) joined ∙ later-joined 10 whole (drop next d) free);
     }
 
@@ -203,7 +203,7 @@ module _ (d : List ℕ) (at : ℕ) where
   -- a name, a space, a number and a line feed are read as an entry
   pair_read :
       (name digits rest : List ℕ) → drop at d ≡ name ++ (32 ∷ (digits ++ (10 ∷ rest))) → is_name name ≡ true → is_number digits ≡ true
-      → line_at d at ≡ L.Entry (at + length name) (spelt 0 digits) (at + length name + 1 + length digits + 1)
+      → line_at d at ≡ Some (record { end = at + length name; number = spelt 0 digits; next = at + length name + 1 + length digits + 1 })
   unfolding line_at
   pair_read name digits rest q named numbered =
       let b : begins (drop at d) ≡ true = ap begins q ∙ name-begins name (32 ∷ (digits ++ (10 ∷ rest))) named in
@@ -214,7 +214,7 @@ module _ (d : List ℕ) (at : ℕ) where
       rw (r, b, s, n, le-leb 1 (spelt 0 digits) (number-spells digits numbered).least)
 
 -- a line with a line feed that was not read as an entry is none
-pub line-bad : (d : List ℕ) (at : ℕ) → line_at d at ≡ L.Bad → {l : List ℕ} {ls : List (List ℕ)} → later 10 (drop at d) ≡ l ∷ ls → is_entry (up_to 10 (drop at d)) ≡ false
+pub line-bad : (d : List ℕ) (at : ℕ) → line_at d at ≡ None → {l : List ℕ} {ls : List (List ℕ)} → later 10 (drop at d) ≡ l ∷ ls → is_entry (up_to 10 (drop at d)) ≡ false
 line-bad d at bad more =
     never (is_entry (up_to 10 (drop at d)))
     (λ t.
@@ -230,28 +230,28 @@ line-bad d at bad more =
 -- the ways through the reading of a line, each test by what it gave
 module _ (d : List ℕ) (at : ℕ) where
   -- no name begins there
-  pub line-unbegun : begins (drop at d) ≡ false → L.Bad ≡ line_at d at
+  pub line-unbegun : begins (drop at d) ≡ false → None ≡ line_at d at
   unfolding line_at
   line-unbegun b = rw b
 
   module _ {e : ℕ} (ends : e ≡ at + run (drop at d)) (b : begins (drop at d) ≡ true) where
     -- no space stands behind the name
-    pub line-unspaced : stands d e 32 ≡ false → L.Bad ≡ line_at d at
+    pub line-unspaced : stands d e 32 ≡ false → None ≡ line_at d at
     unfolding line_at
     line-unspaced s = rw (← ends, b, s)
 
     module _ (s : stands d e 32 ≡ true) where
       -- no number stands behind the space
-      pub line-unnumbered : number_at d (e + 1) 65534 10 ≡ N.Bad → L.Bad ≡ line_at d at
+      pub line-unnumbered : number_at d (e + 1) 65534 10 ≡ None → None ≡ line_at d at
       unfolding line_at
       line-unnumbered n = rw (← ends, b, s, n)
 
       -- the number is 0
-      pub line-zero : {v next : ℕ} → number_at d (e + 1) 65534 10 ≡ N.Number v next → v ≡ 0 → L.Bad ≡ line_at d at
+      pub line-zero : {v next : ℕ} → number_at d (e + 1) 65534 10 ≡ Some (v, next) → v ≡ 0 → None ≡ line_at d at
       unfolding line_at
       line-zero {v} n z = rw (← ends, b, s, n, z)
 
       -- all are there
-      pub line-whole : {v next : ℕ} → number_at d (e + 1) 65534 10 ≡ N.Number v next → (v ≡ 0 → ⊥) → L.Entry e v next ≡ line_at d at
+      pub line-whole : {v next : ℕ} → number_at d (e + 1) 65534 10 ≡ Some (v, next) → (v ≡ 0 → ⊥) → ◌≡◌ {A = Option Entry} (Some (record { end = e; number = v; next = next })) (line_at d at)
       unfolding line_at
       line-whole {v} n z = rw (← ends, b, s, n, le-leb 1 v (omega arith))

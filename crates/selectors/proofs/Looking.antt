@@ -6,7 +6,8 @@ use Prim.Native.Nat.{ℕ, zero, suc, ◌-◌, ◌≤◌, ◌<◌}
 use native.Mathlib.Omega.{arith}
 use lib.ListN.{length, take, drop}
 use Rattle.meaning.proofs.Basics.{clear, and_l, and_r}
-use Rattle.selectors.specs.declared.dictionary.Line.TheVariants as L
+use Rattle.std.specs.Prelude.{Some, None}
+use Rattle.selectors.specs.declared.dictionary.Entry.{Entry}
 use Rattle.selectors.specs.Parts.{up_to, later, parts, each, same}
 use Rattle.selectors.specs.Dictionary.{is_entry, name_of, number_in}
 use Rattle.selectors.specs.Lining.{line_at, Entries}
@@ -35,7 +36,7 @@ left-next {left = zero} l some = absurd (omega arith)
 left-next {d} {at = at} {left = suc n} l some = and_l (is_entry (up_to 10 (drop at d))) (each is_entry (take n (later 10 (drop at d)))) l.sound
 
 -- so it is not read as a bad one
-pub left-bad : {d name : List ℕ} {at left answer : ℕ} → Left d name at left answer → 0 < left → line_at d at ≡ L.Bad → ⊥
+pub left-bad : {d name : List ℕ} {at left answer : ℕ} → Left d name at left answer → 0 < left → line_at d at ≡ None → ⊥
 left-bad {d} {at = at} l some bad = go (later 10 (drop at d)) refl
   where
     go : (ls : List (List ℕ)) → later 10 (drop at d) ≡ ls → ⊥
@@ -44,7 +45,8 @@ left-bad {d} {at = at} l some bad = go (later 10 (drop at d)) refl
 
 -- a line of the name gives its number
 pub left-hit :
-    {d name : List ℕ} {at left answer e v next : ℕ} → Left d name at left answer → 0 < left → line_at d at ≡ L.Entry e v next → same (take (e - at) (drop at d)) name ≡ true → v ≡ answer
+    {d name : List ℕ} {at left answer : ℕ} {line : Entry} → Left d name at left answer → 0 < left → line_at d at ≡ Some line → same (take (line.end - at) (drop at d)) name ≡ true
+    → line.number ≡ answer
 unfolding number_in
 left-hit {left = zero} l some read t = absurd (omega arith)
 left-hit {d} {name} {at} {left = suc n} l some read t =
@@ -54,11 +56,12 @@ left-hit {d} {name} {at} {left = suc n} l some read t =
 
 -- a line of another name leaves the lines behind it
 pub left-on :
-    {d name : List ℕ} {at left answer e v next : ℕ} → Left d name at left answer → 0 < left → line_at d at ≡ L.Entry e v next → same (take (e - at) (drop at d)) name ≡ false
-    → Left d name next (left - 1) answer
+    {d name : List ℕ} {at left answer : ℕ} {line : Entry} → Left d name at left answer → 0 < left → line_at d at ≡ Some line → same (take (line.end - at) (drop at d)) name ≡ false
+    → Left d name line.next (left - 1) answer
 unfolding number_in each
 left-on {left = zero} l some read t = absurd (omega arith)
-left-on {d} {name} {at} {left = suc n} {next = next} l some read t =
+left-on {d} {name} {at} {left = suc n} {line = line} l some read t =
+    let next = line.next in
     let r = line_read d at read in
     let miss : same (name_of (up_to 10 (drop at d))) name ≡ false = rw r.name at t in
     let one : suc n - 1 ≡ n = omega arith in

@@ -9,7 +9,7 @@ use borrow.Author.Tests.{eq-eqb, ne_eqb, lt-ltb, le-ltb, ltb-true}
 use lib.Dec.{eqb, ltb}
 use lib.ListN.{length, get_or, drop, drop_of_length-le}
 use lib.Seq.{drop-cons}
-use Rattle.meaning.specs.declared.Found.TheVariants.{At, Nothing}
+use Rattle.std.specs.Prelude.{Some, None}
 use Rattle.selectors.specs.Profile.{is_first, is_inner}
 use Rattle.selectors.specs.Scan.{after, left_after, scan}
 
@@ -83,13 +83,13 @@ slash_some phase left x h = go (eqb phase 0) (is_first x) (eqb x 42) (eqb x 47) 
 module _ {text : List ℕ} {phase left i : ℕ} (r : Scanning text phase left i) where
   -- the byte that comes
   next-byte : i < length text
-      → cond (eqb (after phase left (get_or text i 0)) 3) (At i)
+      → cond (eqb (after phase left (get_or text i 0)) 3) (Some i)
       (scan (after phase left (get_or text i 0)) (left_after (after phase left (get_or text i 0)) left) (suc i) (drop (suc i) text)) ≡ scan 0 8 0 text
   unfolding scan
   next-byte here = rw (drop-cons text i 0 here) at r.rest
 
   -- it may not follow
-  pub scanning_stuck : i < length text → {next : ℕ} → next ≡ after phase left (get_or text i 0) → next ≡ 3 → At i ≡ scan 0 8 0 text
+  pub scanning_stuck : i < length text → {next : ℕ} → next ≡ after phase left (get_or text i 0) → next ≡ 3 → Some i ≡ scan 0 8 0 text
   scanning_stuck here e s = rw (eq-eqb (after phase left (get_or text i 0)) 3 (sym e ∙ s)) at (next-byte here)
 
   -- it may follow
@@ -104,11 +104,11 @@ module _ {text : List ℕ} {phase left i : ℕ} (r : Scanning text phase left i)
       }
 
   -- the text ends ahead of a step
-  pub scanning_short : length text ≤ i → phase ≡ 0 → At i ≡ scan 0 8 0 text
+  pub scanning_short : length text ≤ i → phase ≡ 0 → Some (length text) ≡ scan 0 8 0 text
   unfolding scan
-  scanning_short past e = rw (drop_of_length-le text past, e) at r.rest
+  scanning_short past e = let last : i ≡ length text = omega (arith, r.inside) in rw last at (rw (drop_of_length-le text past, e) at r.rest)
 
   -- the text ends elsewhere
-  pub scanning_all : length text ≤ i → (phase ≡ 0 → ⊥) → Nothing ≡ scan 0 8 0 text
+  pub scanning_all : length text ≤ i → (phase ≡ 0 → ⊥) → None ≡ scan 0 8 0 text
   unfolding scan
   scanning_all past e = rw (drop_of_length-le text past, ne_eqb phase 0 e) at r.rest

@@ -9,8 +9,8 @@ use borrow.Author.Tests.{eqb-true, ltb-true, ltb-false, le-leb, lt-leb, leb-true
 use lib.Dec.{eqb, leb, ltb}
 use lib.ListN.{length, take, length-append}
 use lib.Seq.{take_all, take-append-le, take_at, append_snoc}
-use Rattle.meaning.specs.declared.Found.{Found}
-use Rattle.meaning.specs.declared.Found.TheVariants.{At, Nothing}
+use Rattle.meaning.specs.Walk.{Found}
+use Rattle.std.specs.Prelude.{Some, None}
 use Rattle.meaning.proofs.Basics.{clear, never, le_or_lt}
 use Rattle.selectors.specs.Parts.{up_to, later, each, same}
 use Rattle.selectors.specs.Profile.{is_letter, is_first, is_inner, is_name, is_star, is_step, in_profile, Begins, Hopeless, Outside}
@@ -257,15 +257,15 @@ ended-in pre phase left r e = rw (append-nil pre) at (r.rest [] ∙ ends phase r
 
 -- what the scan's answer says of a text
 abbrev pub Right : List ℕ → Found → Type 0
-Right text (At p) = Outside text p
-Right text Nothing = in_profile text ≡ true
+Right text (Some p) = Outside text p
+Right text None = in_profile text ≡ true
 
 -- the scan from a phase on
 scan-on : (s pre : List ℕ) (phase left : ℕ) → Reached pre phase left → Right (pre ++ s) (scan phase left (length pre) s)
 unfolding scan
 scan-on [] pre phase left r = end (eqb phase 0) refl
   where
-    end : (t : Bool) → eqb phase 0 ≡ t → Right (pre ++ []) (cond t (At (length pre)) Nothing)
+    end : (t : Bool) → eqb phase 0 ≡ t → Right (pre ++ []) (cond t (Some (length pre)) None)
     end true e = rw (append-nil pre) (ended-out pre left (rw (eqb-true phase 0 e) at r))
     end false e = rw (append-nil pre) (ended-in pre phase left r e)
 scan-on (x ∷ xs) pre phase left r = go (eqb (after phase left x) 3) refl (λ e. scan-on xs (pre ++ (x ∷ [])) (after phase left x) (left_after (after phase left x) left) (reached-more pre phase left x r e))
@@ -275,7 +275,7 @@ scan-on (x ∷ xs) pre phase left r = go (eqb (after phase left x) 3) refl (λ e
 
     go : (t : Bool) → eqb (after phase left x) 3 ≡ t
         → (eqb (after phase left x) 3 ≡ false → Right ((pre ++ (x ∷ [])) ++ xs) (next (length (pre ++ (x ∷ []))) xs))
-        → Right (pre ++ (x ∷ xs)) (cond t (At (length pre)) (next (suc (length pre)) xs))
+        → Right (pre ++ (x ∷ xs)) (cond t (Some (length pre)) (next (suc (length pre)) xs))
     go true e rest = stuck_out pre xs phase left x r e
     go false e rest =
         let long : length (pre ++ (x ∷ [])) ≡ suc (length pre) = omega (arith, length-append pre (x ∷ [])) in

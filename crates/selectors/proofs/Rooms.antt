@@ -1,4 +1,5 @@
 -- How long the line on a selector can be: at most 62 bytes for a path, 50 for a refusal.
+use Rattle.std.specs.Prelude.{Err, Ok, Result}
 use mathlib.Core.Path.{◌≡◌, refl}
 use mathlib.Core.Logic.{⊎_elim}
 use mathlib.Core.List.{List, [], ◌∷◌}
@@ -13,8 +14,7 @@ use Rattle.meaning.specs.Answer.{Told}
 use Rattle.meaning.proofs.Basics.{went}
 use Rattle.spelling.specs.Spelled.{word, digits_of, decimal, spaced}
 use Rattle.spelling.proofs.Rooms.{refused_room}
-use Rattle.selectors.specs.declared.Selected.{Selected}
-use Rattle.selectors.specs.declared.Selected.TheVariants.{Path, Refused}
+use Rattle.meaning.specs.declared.Refusal.{Refusal}
 use Rattle.selectors.specs.Selecting.{Comes, tell_selected}
 use Rattle.selectors.specs.Told.{spaced_all, selector_line}
 use Rattle.selectors.proofs.Filling.{few-steps}
@@ -40,19 +40,19 @@ spaced-room (x ∷ l) h =
     omega (arith, length-append (spaced x) (spaced_all l), spaced-room l (λ k. h (suc k)))
 
 -- a path of at most eight steps has a line of at most 62 bytes
-path_room : (n : ℕ) (numbers : List ℕ) → n ≤ 8 → length (spaced_all numbers) ≤ 48 → length (selector_line (Path n) numbers) ≤ 62
+path_room : (n : ℕ) (numbers : List ℕ) → n ≤ 8 → length (spaced_all numbers) ≤ 48 → length (selector_line (Ok n) numbers) ≤ 62
 unfolding selector_line word decimal
 path_room n numbers few h =
     let digit : length (decimal n) ≤ 1 = few-digits 20 0 n (omega arith) in
     simp length-append (omega arith)
 
 -- the length that is told of a path is at most eight
-told-few : {text d : List ℕ} {told : Told} {numbers : List ℕ} (n : ℕ) → Comes text d told numbers → told ≡ tell_selected (Path n) → n ≤ 8
+told-few : {text d : List ℕ} {told : Told} {numbers : List ℕ} (n : ℕ) → Comes text d told numbers → told ≡ tell_selected (Ok n) → n ≤ 8
 told-few {text} n c e = let r = reads c e in omega (arith, r.many, few-steps text r.accepts.inside)
 
 -- the line on what comes of a text and a dictionary has at most 62 bytes
-pub selector_room : {text d : List ℕ} (answer : Selected) {numbers : List ℕ} → Comes text d (tell_selected answer) numbers → length numbers ≡ 8 → ((k : ℕ) → Fits w16 (get_or numbers k 0))
+pub selector_room : {text d : List ℕ} (answer : Result ℕ Refusal) {numbers : List ℕ} → Comes text d (tell_selected answer) numbers → length numbers ≡ 8 → ((k : ℕ) → Fits w16 (get_or numbers k 0))
     → length (selector_line answer numbers) ≤ 62
 unfolding selector_line tell_selected
-selector_room (Path n) {numbers} c l h = path_room n numbers (told-few n c refl) (omega (arith, spaced-room numbers (λ k. (h k).fits)))
-selector_room (Refused number place) c l h = omega (arith, refused_room number place)
+selector_room (Ok n) {numbers} c l h = path_room n numbers (told-few n c refl) (omega (arith, spaced-room numbers (λ k. (h k).fits)))
+selector_room (Err why) c l h = omega (arith, refused_room why.number why.place)

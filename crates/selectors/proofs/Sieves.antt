@@ -2,15 +2,15 @@
 use mathlib.Core.Path.{◌≡◌, refl, sym, ap, ◌∙◌}
 use mathlib.Core.Logic.{⊎_elim}
 use mathlib.Core.Bool.{Bool, true, false, ◌&&◌}
-use mathlib.Core.List.{List, [], ◌∷◌, ◌++◌, append_assoc, append-nil}
-use Prim.Native.Nat.{ℕ, suc, ◌+◌, ◌-◌, ◌*◌, ◌%◌, ◌≤◌, ◌<◌}
+use mathlib.Core.List.{List, [], ◌∷◌}
+use Prim.Native.Nat.{ℕ, ◌+◌, ◌-◌, ◌*◌, ◌%◌, ◌≤◌, ◌<◌}
 use native.Mathlib.Nat.{mod-lt}
 use native.Mathlib.Numerals.{add-one}
 use native.Mathlib.Omega.{arith}
 use borrow.Author.Tests.{eqb-true, eqb-false, eq-eqb, ne_eqb}
 use lib.Dec.{eqb, ltb}
-use lib.ListN.{length, take, drop, get_or, set, replicate, length-set, length-replicate, replicate-append-replicate, drop_of_length-le}
-use lib.Seq.{drop-cons, set_at, get_or-set_same, get_or-set_other}
+use lib.ListN.{length, take, drop, get_or, set, replicate, length-set, length-replicate, drop_of_length-le}
+use lib.Seq.{drop-cons, get_or-set_same, get_or-set_other}
 use Rattle.meaning.proofs.Basics.{went, clear, and_l, and_r}
 use Rattle.selectors.specs.Parts.{parts, each, same}
 use Rattle.selectors.specs.Dictionary.{name_of, has, number_in}
@@ -29,18 +29,6 @@ module _ (name : List ℕ) (i key k : ℕ) (so_far : key_from key (drop i name) 
   pub key-end : length name ≤ i → key ≡ k
   unfolding key_from
   key-end h = rw (drop_of_length-le name h) at so_far
-
--- one place more is wiped out
-pub wiped_more : (old : List ℕ) (i : ℕ) {s : List ℕ} → i < length old → s ≡ replicate i 0 ++ drop i old → set s i 0 ≡ replicate (i + 1) 0 ++ drop (i + 1) old
-wiped_more old i {s} h e =
-    rw (e, ← replicate-append-replicate {A = ℕ} i 1 0, add-one i, drop-cons old i 0 h, append_assoc (replicate i 0) (0 ∷ []) (drop (suc i) old))
-    (set_at (replicate i 0) (get_or old i 0) (drop (suc i) old) 0 i (length-replicate i 0))
-
--- all places are wiped out
-pub wiped_all : (old : List ℕ) (i : ℕ) {s : List ℕ} → i ≤ length old → length old ≤ i → s ≡ replicate i 0 ++ drop i old → s ≡ replicate (length old) 0
-wiped_all old i l h e =
-    let all : i ≡ length old = omega arith in
-    e ∙ rw (drop_of_length-le old h, append-nil {A = ℕ} (replicate i 0)) (ap (λ n. replicate n 0) all)
 
 -- a table that is wiped out has as much room as it had
 pub wiped_room : (n : ℕ) {s : List ℕ} → s ≡ replicate n 0 → 64 ≤ n → 64 ≤ length s

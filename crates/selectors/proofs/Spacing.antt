@@ -1,4 +1,5 @@
 -- The numbers of a path put one after the other, and the line on an answer.
+use Rattle.std.specs.Prelude.{Ok, Result}
 use mathlib.Core.Path.{◌≡◌, refl, ap, ◌∙◌}
 use mathlib.Core.List.{List, [], ◌∷◌, ◌++◌, append_assoc, append-nil}
 use Prim.Native.Nat.{ℕ, ◌+◌, ◌≤◌, ◌<◌}
@@ -10,8 +11,8 @@ use Rattle.spelling.specs.Lines.{refused_line}
 use Rattle.spelling.specs.Puts.{Puts}
 use Rattle.spelling.proofs.Pieces.{puts_none, puts_as, puts_then}
 use Rattle.selectors.specs.Told.{spaced_all, selector_line}
-use Rattle.selectors.specs.declared.Selected.{Selected}
-use Rattle.selectors.specs.declared.Selected.TheVariants.{Path, Refused}
+use Rattle.meaning.specs.declared.Refusal.{Refusal}
+use Rattle.meaning.specs.Reading.{Refused}
 
 -- numbers behind numbers are spaced behind them
 pub spaced-append : (a b : List ℕ) → spaced_all (a ++ b) ≡ spaced_all a ++ spaced_all b
@@ -41,9 +42,9 @@ module _ {before : List ℕ} {at : ℕ} {path after : List ℕ} {to k : ℕ} (p 
   pub pathing_all : length path ≤ k → Puts before at (spaced_all path) after to
   pathing_all h = puts_as p.puts (ap spaced_all (take_all k path h))
 
-module _ (path : List ℕ) {before after : List ℕ} {r : ℕ} {answer : Selected} where
+module _ (path : List ℕ) {before after : List ℕ} {r : ℕ} {answer : Result ℕ Refusal} where
   -- the words, the numbers and the length of a path are the line on it
-  pub path-line : {n : ℕ} → Puts before 0 (word "path" ++ spaced_all path ++ word " length" ++ spaced n ++ word "\n") after r → answer ≡ Path n → Puts before 0 (selector_line answer path) after r
+  pub path-line : {n : ℕ} → Puts before 0 (word "path" ++ spaced_all path ++ word " length" ++ spaced n ++ word "\n") after r → answer ≡ Ok n → Puts before 0 (selector_line answer path) after r
   unfolding selector_line
   path-line p e = rw e p
 

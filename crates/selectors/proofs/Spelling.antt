@@ -10,7 +10,7 @@ use lib.Dec.{eqb, leb, ltb}
 use lib.ListN.{length, drop}
 use Rattle.meaning.proofs.Basics.{went, never, clear, and_l, and_r, both, or_cases, or_r}
 use Rattle.typed.specs.declared.scan.Digits.{Digits}
-use Rattle.typed.specs.declared.scan.Scan.TheVariants.{Number, Bad}
+use Rattle.std.specs.Prelude.{Option, Some, None}
 use Rattle.typed.specs.Numeral.{is_digit, longer, digits, top, digits_at, stands, is_plain, number_at}
 use Rattle.typed.proofs.Scans.{stands-inside}
 use Rattle.selectors.specs.Parts.{each}
@@ -131,7 +131,7 @@ pub record Numbered (d : List ℕ) (i v n : ℕ) : Type 0 where
 
 module _ (d : List ℕ) (i : ℕ) where
   -- where the scan finds a number there are its digits
-  pub number-scanned : {v n : ℕ} → number_at d i 65534 10 ≡ Number v n → Numbered d i v n
+  pub number-scanned : {v n : ℕ} → number_at d i 65534 10 ≡ Some (v, n) → Numbered d i v n
   unfolding number_at digits_at
   number-scanned {v} {n} e =
       let r = digits-front (drop i d) 0 i in
@@ -140,9 +140,10 @@ module _ (d : List ℕ) (i : ℕ) where
       let fits = leb (min f.value top) 65534 in
       ⊎_elim
       (λ t.
-      let found : Number (min f.value top) (f.next + 1) ≡ Number v n = rw t at e in
-      let least : min f.value top ≡ v = cc in
-      let place : f.next + 1 ≡ n = cc in
+      let found : ◌≡◌ {A = Option (ℕ × ℕ)} (Some (min f.value top, f.next + 1)) (Some (v, n)) = rw t at e in
+      let both : ◌≡◌ {A = ℕ × ℕ} (min f.value top, f.next + 1) (v, n) = cc in
+      let least : min f.value top ≡ v = ap (λ (p : ℕ × ℕ). p.0) both in
+      let place : f.next + 1 ≡ n = ap (λ (p : ℕ × ℕ). p.1) both in
       let most = leb-true (min f.value top) 65534 (and_r plain fits (and_r (stands d f.next 10) (plain && fits) t)) in
       let stop : stands d (i + length r.front) 10 ≡ true = rw r.next at (and_l (stands d f.next 10) (plain && fits) t) in
       let next : i + length r.front + 1 ≡ n = omega (arith, r.next) in
@@ -159,11 +160,11 @@ module _ (d : List ℕ) (i : ℕ) where
         next = sym next;
         inside = omega (arith, stands-inside d (i + length r.front) 10 stop);
       })
-      (λ t. let wrong : Bad ≡ Number v n = rw t at e in let z : ◌≡◌ {A = ℕ} 0 1 = cc in absurd (omega arith))
+      (λ t. let wrong : ◌≡◌ {A = Option (ℕ × ℕ)} None (Some (v, n)) = rw t at e in let z : ◌≡◌ {A = ℕ} 0 1 = cc in absurd (omega arith))
       (went (stands d f.next 10 && (plain && fits)))
 
   -- where there are the digits of a number and a line feed the scan finds it
-  pub number-found : (ds b : List ℕ) → drop i d ≡ ds ++ (10 ∷ b) → is_number ds ≡ true → number_at d i 65534 10 ≡ Number (spelt 0 ds) (i + length ds + 1)
+  pub number-found : (ds b : List ℕ) → drop i d ≡ ds ++ (10 ∷ b) → is_number ds ≡ true → number_at d i 65534 10 ≡ Some (spelt 0 ds, i + length ds + 1)
   unfolding number_at digits_at
   number-found ds b e n =
       let s = number-spells ds n in

@@ -1,4 +1,5 @@
 -- WHAT IS PROVED OF READING A SELECTOR, for every text, every dictionary and every result that the promise of `read_selector` allows.
+use Rattle.std.specs.Prelude.{Ok}
 use mathlib.Core.Path.{◌≡◌, refl, ap, ◌∙◌}
 use mathlib.Core.Logic.{◌↔◌}
 use mathlib.Core.Bool.{true}
@@ -8,7 +9,7 @@ use native.Mathlib.Omega.{arith}
 use lib.ListN.{length}
 use Rattle.meaning.specs.declared.Rule.{Rule}
 use Rattle.meaning.specs.Rules.{path_fits}
-use Rattle.selectors.specs.declared.Selected.TheVariants.{Path, Refused}
+use Rattle.meaning.specs.Reading.{Refused}
 use Rattle.selectors.specs.declared.Selector.{Selector}
 use Rattle.selectors.specs.Profile.{steps, in_profile, Outside}
 use Rattle.selectors.specs.Dictionary.{lines}
@@ -40,24 +41,24 @@ one_place = unique.outside-unique
 
 module _ {text d : List ℕ} (r : Selector) (p : SelectorPromise text d r) where
   -- WHAT COMES BACK is the path of the steps, and how many there are
-  pub path-back : {n : ℕ} → r.answer ≡ Path n → Reads text d n r.path
+  pub path-back : {n : ℕ} → r.answer ≡ Ok n → Reads text d n r.path
   path-back e = reads p (ap tell_selected e)
 
   -- ACCEPTED EXACTLY WHEN the text is in the profile, the dictionary is sound and has each name
-  pub accepted-exactly : ((n : ℕ) × (r.answer ≡ Path n)) ↔ Accepts text d
+  pub accepted-exactly : ((n : ℕ) × (r.answer ≡ Ok n)) ↔ Accepts text d
   accepted-exactly = (λ e. (path-back e.1).accepts, back)
     where
-      back : Accepts text d → (n : ℕ) × (r.answer ≡ Path n)
+      back : Accepts text d → (n : ℕ) × (r.answer ≡ Ok n)
       back a =
           let told = path a.inside a.sound (each-known (lines d) 0 (steps text) a.known) refl refl in
-          (length (steps text), unique.told-unique r.answer (Path (length (steps text))) (unique.comes-unique p told).0)
+          (length (steps text), unique.told-unique r.answer (Ok (length (steps text))) (unique.comes-unique p told).0)
 
   -- A REFUSAL has its ground by its number, an unsound dictionary its first bad line for a place, and no path stands beside it
   pub refused_exactly : {x i : ℕ} → r.answer ≡ Refused x i → Refuses text d x i × (r.path ≡ no_path)
   refused_exactly e = refuses p (ap tell_selected e)
 
   -- A RULE RECORD with the path and the length that come back passes the path test of 25
-  pub rule_path : {n : ℕ} → r.answer ≡ Path n → (rule : Rule) → rule.path ≡ r.path → rule.steps ≡ n → path_fits rule ≡ true
+  pub rule_path : {n : ℕ} → r.answer ≡ Ok n → (rule : Rule) → rule.path ≡ r.path → rule.steps ≡ n → path_fits rule ≡ true
   unfolding lines
   rule_path e rule f g =
       let b = path-back e in

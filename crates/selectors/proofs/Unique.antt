@@ -8,11 +8,11 @@ use native.Mathlib.Nat.{eq-or-lt_of_le}
 use native.Mathlib.Omega.{arith}
 use lib.Dec.{eqb}
 use lib.ListN.{length}
-use Rattle.meaning.specs.declared.Found.TheVariants.{At, Nothing}
+use Rattle.std.specs.Prelude.{Some, None, Err, Ok, Result}
 use Rattle.meaning.specs.Answer.{Told}
 use Rattle.meaning.proofs.Basics.{clear, le_or_lt}
-use Rattle.selectors.specs.declared.Selected.{Selected}
-use Rattle.selectors.specs.declared.Selected.TheVariants.{Path, Refused}
+use Rattle.meaning.specs.declared.Refusal.{Refusal}
+use Rattle.meaning.specs.Reading.{Refused}
 use Rattle.selectors.specs.declared.Selector.{Selector}
 use Rattle.selectors.specs.Profile.{Hopeless, Outside}
 use Rattle.selectors.specs.Selecting.{tell_selected, Comes, outside, unsound, unknown, path, SelectorPromise}
@@ -34,16 +34,16 @@ outside-unique {text} {p} {q} a b =
     (le_or_lt p q)
 
 -- an answer is had back from its numbers
-pub told-unique : (a b : Selected) → tell_selected a ≡ tell_selected b → a ≡ b
+pub told-unique : (a b : Result ℕ Refusal) → tell_selected a ≡ tell_selected b → a ≡ b
 unfolding tell_selected
-told-unique a b e = sym (back a) ∙ ap (λ (t : Told). cond (eqb t.outcome 0) (Path t.count) (Refused t.number t.place)) e ∙ back b
+told-unique a b e = sym (back a) ∙ ap (λ (t : Told). cond (eqb t.outcome 0) (Ok t.count) (Refused t.number t.place)) e ∙ back b
   where
-    back : (x : Selected) → cond (eqb (tell_selected x).outcome 0) (Path (tell_selected x).count) (Refused (tell_selected x).number (tell_selected x).place) ≡ x
-    back (Path n) = refl
-    back (Refused x i) = refl
+    back : (x : Result ℕ Refusal) → cond (eqb (tell_selected x).outcome 0) (Ok (tell_selected x).count) (Refused (tell_selected x).number (tell_selected x).place) ≡ x
+    back (Ok n) = refl
+    back (Err why) = refl
 
 -- what was found was found
-found-lost : {k : ℕ} → At k ≡ Nothing → ⊥
+found-lost : {k : ℕ} → Some k ≡ None → ⊥
 found-lost e = let wrong : ◌≡◌ {A = ℕ} 0 1 = cc in omega arith
 
 -- what comes of a text and a dictionary is one thing
@@ -66,7 +66,7 @@ comes-unique (path i s a e f) (unknown q l t b g h) = absurd (found-lost (sym b 
 comes-unique (path i s a e f) (path l t b g h) = (e ∙ sym g, f ∙ sym h)
 
 -- a result of an answer and the numbers beside it
-abbrev pub selector_of : Selected → List ℕ → Selector
+abbrev pub selector_of : Result ℕ Refusal → List ℕ → Selector
 selector_of a numbers = record { answer = a; path = numbers }
 
 -- two results are equal

@@ -1,7 +1,6 @@
 -- The dictionary (MEANING 18): lines of a name, one space and a number, each ended by a line feed, no name twice.
 use Rattle.std.specs.Prelude.{Bool, false, ◌&&◌, ◌||◌, not, cond, List, [], ◌∷◌, ℕ, suc, eqb, leb, ltb, length, take, get_or}
-use Rattle.meaning.specs.declared.Found.{Found}
-use Rattle.meaning.specs.Walk.{first}
+use Rattle.meaning.specs.Walk.{first, Found}
 use Rattle.typed.specs.Numeral.{is_digit, longer}
 use Rattle.selectors.specs.Parts.{up_to, later, parts, each, same}
 use Rattle.selectors.specs.Profile.{is_name}

@@ -1,13 +1,9 @@
 -- How a line of a dictionary is read from a place on, and what comes of all lines.
-use Rattle.std.specs.Prelude.{◌≡◌, Bool, true, false, ◌&&◌, ◌||◌, not, cond, List, [], ◌∷◌, ℕ, suc, ◌+◌, ◌%◌, ◌≤◌, eqb, leb, ltb, length, take, drop}
+use Rattle.std.specs.Prelude.{◌≡◌, Bool, true, false, ◌&&◌, ◌||◌, not, cond, List, [], ◌∷◌, ℕ, suc, ◌+◌, ◌%◌, ◌≤◌, eqb, leb, ltb, length, take, drop, Option, Some, None, Result, Ok, Err}
 use Rattle.meaning.specs.Walk.{first, on_found}
-use Rattle.typed.specs.declared.scan.Scan.{Scan}
-use Rattle.typed.specs.declared.scan.Scan.TheVariants as N
+use Rattle.typed.specs.declared.BadLine.{BadLine}
 use Rattle.typed.specs.Numeral.{stands, number_at}
-use Rattle.selectors.specs.declared.dictionary.Line.{Line}
-use Rattle.selectors.specs.declared.dictionary.Line.TheVariants as L
-use Rattle.selectors.specs.declared.dictionary.Checked.{Checked}
-use Rattle.selectors.specs.declared.dictionary.Checked.TheVariants as C
+use Rattle.selectors.specs.declared.dictionary.Entry.{Entry}
 use Rattle.selectors.specs.Parts.{parts, each, same}
 use Rattle.selectors.specs.Profile.{is_first, is_inner}
 use Rattle.selectors.specs.Dictionary.{is_entry, name_of, ended, line_of, has, first_bad_line}
@@ -24,15 +20,15 @@ begins [] = false
 begins (x ∷ xs) = is_first x
 
 -- a name that ends at `end`, and the number behind it
-abbrev pub on_number : ℕ → Scan → Line
-on_number end (N.Number value next) = cond (leb 1 value) (L.Entry end value next) L.Bad
-on_number end N.Bad = L.Bad
+abbrev pub on_number : ℕ → Option (ℕ × ℕ) → Option Entry
+on_number end (Some found) = cond (leb 1 found.0) (Some (record { end = end; number = found.0; next = found.1 })) None
+on_number end None = None
 
 -- the line from a place on: where its name ends, its number, and the place behind its line feed
-unfoldable pub line_at : List ℕ → ℕ → Line
+unfoldable pub line_at : List ℕ → ℕ → Option Entry
 line_at d at =
     let end = at + run (drop at d) in
-    cond (begins (drop at d) && stands d end 32) (on_number end (number_at d (end + 1) 65534 10)) L.Bad
+    cond (begins (drop at d) && stands d end 32) (on_number end (number_at d (end + 1) 65534 10)) None
 
 -- the first n lines are entries
 pub record Entries (d : List ℕ) (n : ℕ) : Type 0 where
@@ -68,20 +64,24 @@ unfoldable pub good_for : (ℕ → Bool) → List ℕ → ℕ → Bool
 good_for p d k =
     cond (ltb k (ended d)) (is_entry (line_of d k) && not (again p (take k (parts 10 d)) (name_of (line_of d k)))) (same (line_of d k) [])
 
+-- that a line is bad
+abbrev pub bad_at : ℕ → Result ℕ BadLine
+bad_at k = Err (record { line = k })
+
 -- what comes of n lines: that there are so many, or the first that is bad
-unfoldable pub checked_by : (ℕ → Bool) → ℕ → Checked
-checked_by good n = on_found (first (λ k. not (good k)) 0 (suc n)) C.Bad (C.Sound n)
+unfoldable pub checked_by : (ℕ → Bool) → ℕ → Result ℕ BadLine
+checked_by good n = on_found (first (λ k. not (good k)) 0 (suc n)) bad_at (Ok n)
 
 -- what comes of all lines where only names whose key passes p are compared
-unfoldable pub checked_for : (ℕ → Bool) → List ℕ → Checked
+unfoldable pub checked_for : (ℕ → Bool) → List ℕ → Result ℕ BadLine
 checked_for p d = checked_by (good_for p d) (ended d)
 
 -- of two that came of lines that which is bad, and the lower one if both are
-abbrev pub lower : Checked → Checked → Checked
-lower (C.Sound n) b = b
-lower (C.Bad i) (C.Sound n) = C.Bad i
-lower (C.Bad i) (C.Bad j) = cond (ltb i j) (C.Bad i) (C.Bad j)
+abbrev pub lower : Result ℕ BadLine → Result ℕ BadLine → Result ℕ BadLine
+lower (Ok n) b = b
+lower (Err i) (Ok n) = Err i
+lower (Err i) (Err j) = cond (ltb i.line j.line) (Err i) (Err j)
 
 -- what comes of all lines: how many there are, or the first that is bad
-unfoldable pub checked : List ℕ → Checked
-checked d = on_found (first_bad_line d) C.Bad (C.Sound (ended d))
+unfoldable pub checked : List ℕ → Result ℕ BadLine
+checked d = on_found (first_bad_line d) bad_at (Ok (ended d))

@@ -1,9 +1,8 @@
 -- What the walk over the steps of a text answers, and leaves in the path, in terms of the lines that names are looked up in.
-use Rattle.std.specs.Prelude.{◌≡◌, List, ℕ, length}
-use Rattle.meaning.specs.declared.Found.{Found}
-use Rattle.meaning.specs.Walk.{on_found}
-use Rattle.selectors.specs.declared.Selected.{Selected}
-use Rattle.selectors.specs.declared.Selected.TheVariants.{Path, Refused}
+use Rattle.std.specs.Prelude.{◌≡◌, List, ℕ, length, Ok, Result}
+use Rattle.meaning.specs.Walk.{on_found, Found}
+use Rattle.meaning.specs.declared.Refusal.{Refusal}
+use Rattle.meaning.specs.Reading.{Refused}
 use Rattle.selectors.specs.declared.Selector.{Selector}
 use Rattle.selectors.specs.Profile.{steps}
 use Rattle.selectors.specs.Selecting.{unknown_from, path_of, no_path}
@@ -13,13 +12,13 @@ abbrev pub unknown : List ℕ → List (List ℕ) → Found
 unknown text ls = unknown_from ls 0 (steps text)
 
 -- the answer on a text of the profile
-abbrev pub answer_on : List ℕ → List (List ℕ) → Selected
-answer_on text ls = on_found (unknown text ls) (Refused 28) (Path (length (steps text)))
+abbrev pub answer_on : List ℕ → List (List ℕ) → Result ℕ Refusal
+answer_on text ls = on_found (unknown text ls) (Refused 28) (Ok (length (steps text)))
 
 -- the answer, and the path where every step is known
-pub record Filled (text : List ℕ) (ls : List (List ℕ)) (r : Selected) (numbers : List ℕ) : Type 0 where
+pub record Filled (text : List ℕ) (ls : List (List ℕ)) (r : Result ℕ Refusal) (numbers : List ℕ) : Type 0 where
   pub answer : r ≡ answer_on text ls
-  pub path : (n : ℕ) → r ≡ Path n → numbers ≡ path_of ls (steps text)
+  pub path : (n : ℕ) → r ≡ Ok n → numbers ≡ path_of ls (steps text)
 
 -- the same with no path beside a refusal
 pub record LooksUp (text : List ℕ) (ls : List (List ℕ)) (r : Selector) : Type 0 where

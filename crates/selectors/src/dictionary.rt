@@ -1,44 +1,37 @@
 // The dictionary: one line, the first that is bad, and the number that the lines give a name.
 ghost use Rattle.std.specs.Prelude.{◌≡◌, ◌+◌, ◌≤◌, ◌<◌, length, take, drop};
-ghost use Rattle.selectors.specs.Parts.{parts, same};
+ghost use Rattle.selectors.specs.Parts.{parts};
 ghost use Rattle.selectors.specs.Dictionary.{number_in};
 ghost use Rattle.selectors.specs.Lining.{run, begins, line_at, Entries, of_class, again, Sifted, Took, checked_for, lower, checked};
 
 use crate::profile::{is_first, is_inner};
 use crate::sieve;
-use typed::scan::{LINE_FEED, SPACE, Scan, number_at, stands};
+use typed::BadLine;
+use typed::scan::{LINE_FEED, SPACE, number_at, stands};
 
 // A dictionary of at most so many bytes takes a table of as many places, any other the large one.
 const FEW: usize = 4096;
 
 const MANY: usize = 262144;
 
-// A line: the place where its name ends, its number, and the place behind its line feed; or that it is none of the form.
+// A line of the form: the place where its name ends, its number, and the place behind its line feed.
 #[derive(Clone, Copy)]
-pub enum Line {
-    Entry(usize, u16, usize),
-    Bad,
-}
-
-// What comes of a dictionary: how many lines it has, or the number of the first bad one, from 0.
-#[derive(Clone, Copy)]
-pub enum Checked {
-    Sound(usize),
-    Bad(usize),
+pub struct Entry {
+    pub end: usize,
+    pub number: u16,
+    pub next: usize,
 }
 
 // The place behind the bytes from `at` on that a name can be made of.
 fn run_end(d: &[u8], at: usize) -> usize
     ensures { result ≡ at + run (drop at d.now) }
 {
-    let mut end = at;
-    while end < d.len() {
+    for end in at..d.len() {
         if !is_inner(d[end]) {
             return end;
         }
-        end += 1;
     }
-    end
+    at.max(d.len())
 }
 
 // Whether a name can begin at a place.
@@ -51,41 +44,23 @@ fn begins(d: &[u8], at: usize) -> bool
     false
 }
 
-// The line from a place on. At most four looks at each byte.
-fn line_at(d: &[u8], at: usize) -> Line
+// The line from a place on, if it is of the form. At most four looks at each byte.
+fn line_at(d: &[u8], at: usize) -> Option<Entry>
     ensures { result ≡ line_at d.now at }
 {
     let end = run_end(d, at);
     if !begins(d, at) {
-        return Line::Bad;
+        return None;
     }
     if !stands(d, end, SPACE) {
-        return Line::Bad;
+        return None;
     }
-    let Scan::Number(value, next) = number_at(d, end + 1, 65534, LINE_FEED) else {
-        return Line::Bad;
-    };
+    let (value, next) = number_at(d, end + 1, 65534, LINE_FEED)?;
     if value == 0 {
-        return Line::Bad;
+        return None;
     }
-    Line::Entry(end, value as u16, next)
-}
-
-// Whether two texts are the same. It stops at the first byte that differs.
-fn same(a: &[u8], b: &[u8]) -> bool
-    ensures { result ≡ same a.now b.now }
-{
-    if a.len() != b.len() {
-        return false;
-    }
-    let mut i = 0;
-    while i < a.len() {
-        if a[i] != b[i] {
-            return false;
-        }
-        i += 1;
-    }
-    true
+    let number = value as u16;
+    Some(Entry { end, number, next })
 }
 
 // The number that the first `count` lines give a name, or 0 if none of them has it.
@@ -94,16 +69,14 @@ pub fn number_in(d: &[u8], count: usize, name: &[u8]) -> u16
     ensures { result ≡ number_in (take count (parts 10 d.now)) name.now }
 {
     let mut at = 0;
-    let mut left = count;
-    while 0 < left {
-        let Line::Entry(end, number, next) = line_at(d, at) else {
+    for _k in 0..count {
+        let Some(line) = line_at(d, at) else {
             return 0;
         };
-        if same(&d[at..end], name) {
-            return number;
+        if &d[at..line.end] == name {
+            return line.number;
         }
-        at = next;
-        left -= 1;
+        at = line.next;
     }
     0
 }
@@ -133,62 +106,61 @@ fn stood(
     false
 }
 
-// All lines, of whose names those of one class are compared with each other. What is in the sieve at first is wiped out.
-fn check_by(d: &[u8], sieve: &mut [u8], class: usize, classes: usize) -> Checked
+// All lines: how many there are, or the first that is bad, counted from 0. Of their names those of one class are compared with each other. What is in the sieve at first is wiped out.
+fn check_by(d: &[u8], sieve: &mut [u8], class: usize, classes: usize) -> Result<usize, BadLine>
     requires { (64 ≤ length sieve.old) × (0 < classes) }
     ensures { result ≡ checked_for (of_class class classes) d.now }
 {
     sieve::clear(sieve);
     let mut at = 0;
     let mut k = 0;
+    // a while: it goes from line to line, and k counts them
     while at < d.len() {
-        let Line::Entry(end, _, next) = line_at(d, at) else {
-            return Checked::Bad(k);
+        let Some(line) = line_at(d, at) else {
+            return Err(BadLine { line: k });
         };
-        if stood(d, k, &d[at..end], sieve, class, classes) {
-            return Checked::Bad(k);
+        if stood(d, k, &d[at..line.end], sieve, class, classes) {
+            return Err(BadLine { line: k });
         }
-        at = next;
+        at = line.next;
         k += 1;
     }
-    Checked::Sound(k)
+    Ok(k)
 }
 
 // Of what came of two readings that which is bad, and the lower one if both are.
-fn lower(a: Checked, b: Checked) -> Checked
+fn lower(a: Result<usize, BadLine>, b: Result<usize, BadLine>) -> Result<usize, BadLine>
     ensures { result ≡ lower a b }
 {
-    let Checked::Bad(i) = a else {
+    let Err(i) = a else {
         return b;
     };
-    let Checked::Bad(j) = b else {
+    let Err(j) = b else {
         return a;
     };
-    if i < j {
+    if i.line < j.line {
         return a;
     }
     b
 }
 
 // All lines, by one reading for each class of names. There are so many classes that the names of one fill a part of the sieve only.
-fn check_with(d: &[u8], sieve: &mut [u8]) -> Checked
+fn check_with(d: &[u8], sieve: &mut [u8]) -> Result<usize, BadLine>
     requires { 64 ≤ length sieve.old }
     ensures { result ≡ checked d.now }
 {
     let classes = 1 + d.len() / MANY;
     let mut all = check_by(d, sieve, 0, classes);
-    let mut class = 1;
-    while class < classes {
+    for class in 1..classes {
         let one = check_by(d, sieve, class, classes);
         all = lower(all, one);
-        class += 1;
     }
     all
 }
 
-// All lines of a dictionary. One reading of it for each 256 kilobytes that it has, and one more of the lines above for each name whose key
+// All lines of a dictionary: how many there are, or the first that is bad, counted from 0. One reading of it for each 256 kilobytes that it has, and one more of the lines above for each name whose key
 // other names of its class have made look known.
-pub fn check(d: &[u8]) -> Checked
+pub fn check(d: &[u8]) -> Result<usize, BadLine>
     ensures { result ≡ checked d.now }
 {
     if d.len() <= FEW {

@@ -2,7 +2,7 @@
 ghost use Rattle.spelling.specs.Puts.{Puts};
 ghost use Rattle.selectors.specs.Told.{spaced_all, selector_line};
 
-use crate::Selected;
+use meaning::Refusal;
 use spelling::lines::put_refusal;
 use spelling::{put, put_next};
 
@@ -11,26 +11,24 @@ fn put_path(line: &mut [u8], at: usize, path: &[u16]) -> usize
     ensures { Puts line.old at (spaced_all path.now) line.new result }
 {
     let mut to = at;
-    let mut k = 0;
-    while k < path.len() {
-        to = put_next(line, to, path[k] as usize);
-        k += 1;
+    for number in path {
+        to = put_next(line, to, usize::from(*number));
     }
     to
 }
 
 // Puts the line on an answer and the path beside it.
-pub fn put_selector(line: &mut [u8], answer: Selected, path: &[u16]) -> usize
+pub fn put_selector(line: &mut [u8], answer: Result<usize, Refusal>, path: &[u16]) -> usize
     ensures { Puts line.old 0 (selector_line answer path.now) line.new result }
 {
     match answer {
-        Selected::Path(n) => {
+        Ok(n) => {
             let word = put(line, 0, b"path");
             let numbers = put_path(line, word, path);
             let length = put(line, numbers, b" length");
             let end = put_next(line, length, n);
             put(line, end, b"\n")
         }
-        Selected::Refused(number, place) => put_refusal(line, number, place),
+        Err(Refusal { number, place }) => put_refusal(line, number, place),
     }
 }

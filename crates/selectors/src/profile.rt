@@ -3,8 +3,6 @@ ghost use Rattle.std.specs.Prelude.{◌≡◌, ◌≤◌};
 ghost use Rattle.selectors.specs.Profile.{is_letter, is_first, is_inner};
 ghost use Rattle.selectors.specs.Scan.{after, left_after, scan};
 
-use meaning::Found;
-
 const STAR: u8 = 42;
 
 const SLASH: u8 = 47;
@@ -80,23 +78,21 @@ fn left_after(phase: u8, left: usize) -> usize
 
 // The place of refusal 27: the first byte after which no text of the profile can come, or the length of a text that ends too soon. One look
 // at each byte.
-pub fn bad_place(text: &[u8]) -> Found
+pub fn bad_place(text: &[u8]) -> Option<usize>
     ensures { result ≡ scan 0 8 0 text.now }
 {
     let mut phase = AHEAD;
     let mut left = MOST;
-    let mut i = 0;
-    while i < text.len() {
-        let next = after(phase, left, text[i]);
+    for (i, x) in text.iter().enumerate() {
+        let next = after(phase, left, *x);
         if next == STUCK {
-            return Found::At(i);
+            return Some(i);
         }
         left = left_after(next, left);
         phase = next;
-        i += 1;
     }
     if phase == AHEAD {
-        return Found::At(i);
+        return Some(text.len());
     }
-    Found::Nothing
+    None
 }

@@ -10,10 +10,8 @@ pub fn key_of(name: &[u8]) -> usize
     ensures { result ≡ key_of name.now }
 {
     let mut key = 1000000007;
-    let mut i = 0;
-    while i < name.len() {
-        key = (742938285 * key + (name[i] as usize)) % KEYS;
-        i += 1;
+    for x in name {
+        key = (742938285 * key + usize::from(*x)) % KEYS;
     }
     key
 }
@@ -46,9 +44,5 @@ pub fn put(sieve: &mut [u8], key: usize)
 pub fn clear(sieve: &mut [u8])
     ensures { sieve.new ≡ replicate (length sieve.old) 0 }
 {
-    let mut i = 0;
-    while i < sieve.len() {
-        sieve[i] = 0;
-        i += 1;
-    }
+    sieve.fill(0);
 }

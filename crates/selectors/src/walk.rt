@@ -6,8 +6,9 @@ ghost use Rattle.selectors.specs.Lining.{Entries};
 ghost use Rattle.selectors.specs.Selecting.{step_number, no_path};
 ghost use Rattle.selectors.specs.Walking.{LooksUp, Filled};
 
+use crate::Selector;
 use crate::dictionary::number_in;
-use crate::{Selected, Selector};
+use meaning::Refusal;
 
 const STAR: u8 = 42;
 
@@ -21,14 +22,12 @@ fn step_end(text: &[u8], at: usize) -> usize
     requires { at ≤ length text.now }
     ensures { (result ≡ at + length (up_to 47 (drop at text.now))) × (result ≤ length text.now) }
 {
-    let mut end = at;
-    while end < text.len() {
+    for end in at..text.len() {
         if text[end] == SLASH {
             return end;
         }
-        end += 1;
     }
-    end
+    text.len()
 }
 
 // Whether a step is the star.
@@ -53,22 +52,26 @@ fn step_number(d: &[u8], count: usize, step: &[u8]) -> u16
 }
 
 // The numbers of all steps, put into a path that is empty at first; or 28 for the first that is unknown, with the place where it starts.
-fn fill(text: &[u8], d: &[u8], count: usize, path: &mut [u16]) -> Selected
+fn fill(text: &[u8], d: &[u8], count: usize, path: &mut [u16]) -> Result<usize, Refusal>
     requires { Entries d.now count × (in_profile text.now ≡ true) × (path.old ≡ no_path) }
     ensures { Filled text.now (take count (parts 10 d.now)) result path.new }
 {
     let mut at = 0;
     let mut k = 0;
+    // a loop: it goes from slash to slash, and there is one step at least
     loop {
         let end = step_end(text, at);
         let number = step_number(d, count, &text[at..end]);
         if number == 0 {
-            return Selected::Refused(28, at);
+            return Err(Refusal {
+                number: 28,
+                place: at,
+            });
         }
         path[k] = number;
         k += 1;
         if end == text.len() {
-            return Selected::Path(k);
+            return Ok(k);
         }
         at = end + 1;
     }
@@ -81,7 +84,7 @@ pub fn look_up(text: &[u8], d: &[u8], count: usize) -> Selector
 {
     let mut path = [0u16; 8];
     let answer = fill(text, d, count, &mut path);
-    if let Selected::Refused(_, _) = answer {
+    if let Err(_) = answer {
         return Selector {
             answer,
             path: [0u16; 8],

@@ -7,4 +7,3 @@ pub mod Meeting
 pub mod Passing
 pub mod Walking
 pub mod Offence
-pub mod Known

@@ -6,11 +6,10 @@ use mathlib.Core.List.{List}
 use Prim.Native.Nat.{ℕ, zero, suc, ◌+◌, ◌<◌}
 use native.Mathlib.Omega.{arith}
 use lib.Dec.{eqb}
-use lib.ListN.{length, get_or}
+use lib.ListN.{get_or}
 use borrow.Author.Tests.{eqb-true, eqb-false, eq-eqb, ne_eqb}
-use Rattle.meaning.specs.declared.Found.{Found}
 use Rattle.meaning.specs.declared.Rule.{Rule}
-use Rattle.meaning.specs.Walk.{any, first}
+use Rattle.meaning.specs.Walk.{any, first, Found}
 use Rattle.meaning.specs.Document.{Doc, is_version, number_of}
 use Rattle.meaning.specs.Rules.{by_kind, is_key, is_reference}
 use Rattle.meaning.specs.Select.{selected, field_of, valued, is_nil, same_value, present, gives, has_nil, has}
@@ -24,10 +23,12 @@ use Rattle.values.specs.Represents.{Represents}
 use Rattle.values.proofs.Equals.{known_same, rep-nil, nil_unlike}
 use Rattle.prepare.specs.Spoiling.{spoils, AsideIn}
 use Rattle.prepare.specs.Rows.{wants, in_row}
-use Rattle.day.specs.Ready.{Ready, Referred}
+use Rattle.day.specs.declared.lent.Trail.{Trail}
+use Rattle.day.specs.declared.lent.Stretch.{Stretch}
+use Rattle.day.specs.Along.{during, size, there, stands, ReadyAlong, ReferredAlong}
 use Rattle.day.proofs.Single.{eqb_sym}
 use Rattle.groups.specs.Groups.{Groups}
-use Rattle.sharing.specs.Row.{during, some_of, asks, shows, lacking}
+use Rattle.sharing.specs.Row.{some_of, asks, shows, lacking}
 use Rattle.sharing.specs.Table.{holder, rival, row_shares, row_misses}
 
 -- a test that hangs on no number, out of a walk
@@ -260,41 +261,41 @@ module _ (doc : Doc) (begins ends reps : List ℕ) (represents : Represents doc 
     spoilt_in r v = ap (λ b. (is_key r || is_reference r) && b) (nil_agree doc p (meets doc window) r (during-agrees r) v)
 
 -- the first row that offends is the first version that does, nils aside
-module _ (start : ℕ) (next last lower begins ends reps : List ℕ) (from to : ℕ) (doc : Doc) (q r : Rule) (w : Window) (s : Ready doc r start next last lower begins ends reps)
-    (valued_only : (f : ℕ) → wants doc r f ≡ valued doc f) (e : w.from ≡ from) (i : w.to ≡ to) {x : Found} where
-  answer-by : (bad : ℕ → Bool) → ((v : ℕ) → offends_in doc (during begins ends from to) w q r v ≡ (bad v || spoils doc (during begins ends from to) r v))
+module _ (t : Trail) (s : Stretch) (doc : Doc) (q r : Rule) (w : Window) (own : ReadyAlong doc r t s)
+    (valued_only : (f : ℕ) → wants doc r f ≡ valued doc f) (e : w.from ≡ s.from) (i : w.to ≡ s.to) {x : Found} where
+  answer-by : (bad : ℕ → Bool) → ((v : ℕ) → offends_in doc (there s) w q r v ≡ (bad v || spoils doc (there s) r v))
       → x ≡ first bad 0 doc.size → AsideIn doc w q r x
   answer-by bad same found =
       record {
         test = bad;
         lowest = found;
         told = λ v.
-            ap (λ (h : ℕ → Bool). h v) (sym (in_window doc begins ends reps s.represents from to s.periods w e i q r)) ∙ same v
-            ∙ ap (λ b. bad v || b) (spoilt_in doc begins ends reps s.represents from to s.periods w e i r v);
+            ap (λ (h : ℕ → Bool). h v) (sym (in_window doc _ _ _ own.represents s.from s.to own.periods w e i q r)) ∙ same v
+            ∙ ap (λ b. bad v || b) (spoilt_in doc _ _ _ own.represents s.from s.to own.periods w e i r v);
       }
 
   pub shared_answer : (groups : List ℕ) → Groups doc groups → (needy : Bool) → ((r.kind ≡ 1) × (needy ≡ true)) ⊎ ((r.kind ≡ 2) × (needy ≡ false))
-      → x ≡ first (row_shares (during begins ends from to) (length begins) (λ f. get_or reps f 0) (selected doc r) (in_row doc r) (λ v. get_or groups v 0 + 1) needy) 0 (length begins)
+      → x ≡ first (row_shares (there s) (size s) (stands s) (selected doc r) (in_row doc r) (λ v. get_or groups v 0 + 1) needy) 0 (size s)
       → AsideIn doc w q r x
   shared_answer groups grouped needy kinds found =
-      answer-by _ (offends-told doc begins ends reps s.represents from to q r valued_only groups grouped w needy kinds) (rw s.periods.begin.size at found)
+      answer-by _ (offends-told doc _ _ _ own.represents s.from s.to q r valued_only groups grouped w needy kinds) (rw own.periods.begin.size at found)
 
-  pub missing_answer : (start' : ℕ) (next' last' lower' : List ℕ) → Referred doc q start' next' last' lower' begins ends reps → r.kind ≡ 3 → (known : ℕ → Bool)
-      → ((y : ℕ) → known y ≡ any (holder (during begins ends from to) (length begins) (λ f. get_or reps f 0) (selected doc q) (in_row doc q) y) 0 (length begins))
-      → x ≡ first (row_misses (during begins ends from to) (length begins) (λ f. get_or reps f 0) (selected doc r) (in_row doc r) known) 0 (length begins)
+  pub missing_answer : (held : Trail) → ReferredAlong doc q held s → r.kind ≡ 3 → (known : ℕ → Bool)
+      → ((y : ℕ) → known y ≡ any (holder (there s) (size s) (stands s) (selected doc q) (in_row doc q) y) 0 (size s))
+      → x ≡ first (row_misses (there s) (size s) (stands s) (selected doc r) (in_row doc r) known) 0 (size s)
       → AsideIn doc w q r x
-  missing_answer start' next' last' lower' referred kind known holders found =
-      let n = s.periods.begin.size in
+  missing_answer held referred kind known holders found =
+      let n = own.periods.begin.size in
       answer-by _
-      (misses_told doc begins ends reps s.represents from to q r valued_only referred.valued_only known (λ y. rw n at (holders y)) w kind) (rw n at found)
+      (misses_told doc _ _ _ own.represents s.from s.to q r valued_only referred.valued_only known (λ y. rw n at (holders y)) w kind) (rw n at found)
 
   -- a mark that is missing from a value is a nil's
   pub nil_answer : (known : ℕ → Bool) → ((y : ℕ) → y < doc.size → known y ≡ not (is_nil doc y))
-      → x ≡ first (row_misses (during begins ends from to) (length begins) (λ f. get_or reps f 0) (selected doc r) (in_row doc r) known) 0 (length begins)
+      → x ≡ first (row_misses (there s) (size s) (stands s) (selected doc r) (in_row doc r) known) 0 (size s)
       → x ≡ first (λ v. present doc (meets doc w) r v && has_nil doc (meets doc w) r v) 0 doc.size
   nil_answer known marks found =
-      (rw s.periods.begin.size at found)
+      (rw own.periods.begin.size at found)
       ∙ first-same _ _ 0 doc.size
       (λ v a b.
-      nil_missed doc begins ends reps s.represents from to r valued_only known marks v
-      ∙ nil_agree doc (during begins ends from to) (meets doc w) r (during-agrees doc begins ends reps s.represents from to s.periods w e i r) v)
+      nil_missed doc _ _ _ own.represents s.from s.to r valued_only known marks v
+      ∙ nil_agree doc (there s) (meets doc w) r (during-agrees doc _ _ _ own.represents s.from s.to own.periods w e i r) v)

@@ -5,7 +5,7 @@ use mathlib.Core.Bool.{Bool, true, false}
 use Prim.Native.Nat.{ℕ, suc, ◌≤◌, ◌<◌}
 use native.Mathlib.Nat.{eq-or-lt_of_le}
 use native.Mathlib.Omega.{arith}
-use Rattle.meaning.specs.declared.Found.TheVariants.{At, Nothing}
+use Rattle.std.specs.Prelude.{Some, None}
 use Rattle.meaning.specs.Walk.{first}
 use Rattle.meaning.proofs.Basics.{le_or_lt}
 use Rattle.meaning.proofs.Walks.{first-at, first-none}
@@ -25,10 +25,10 @@ module _ (n : ℕ) (chosen : ℕ → Bool) where
     abbrev pub Clean : ℕ → Type 0
     Clean v = (u : ℕ) → u < v → bad u ≡ false
 
-    pub found_at : (v : ℕ) → v < n → Clean v → bad v ≡ true → At v ≡ first bad 0 n
+    pub found_at : (v : ℕ) → v < n → Clean v → bad v ≡ true → Some v ≡ first bad 0 n
     found_at v h s y = sym (first-at bad v 0 n (omega arith) (omega arith) y (λ u a b. s u b))
 
-    pub found_none : (v : ℕ) → n ≤ v → Clean v → Nothing ≡ first bad 0 n
+    pub found_none : (v : ℕ) → n ≤ v → Clean v → None ≡ first bad 0 n
     found_none v h s = sym (first-none bad 0 n (λ u a b. s u (omega arith)))
 
     -- where only chosen ones are

@@ -9,7 +9,7 @@ use native.Mathlib.Omega.{arith}
 use lib.Dec.{ltb, eqb}
 use lib.ListN.{get_or}
 use borrow.Author.Tests.{eqb-true, lt-ltb, le-ltb}
-use Rattle.meaning.specs.declared.Found.TheVariants.{At, Nothing}
+use Rattle.std.specs.Prelude.{Some, None}
 use Rattle.meaning.specs.Walk.{any, first}
 use Rattle.meaning.proofs.Basics.{went, le_or_lt, clear, tests_same, and_l, and_r, both, or_r, neither_r}
 use Rattle.meaning.proofs.Walks.{any_none, any_some, any-true, any_false}
@@ -116,7 +116,7 @@ module _ (p : ℕ → Bool) (n : ℕ) (rep : ℕ → ℕ) (chosen : ℕ → Bool
           own = λ y u h i. absurd (clear i (not_held y u (to.before u (omega arith) h)));
         }
 
-    pub shared_end : (v : ℕ) (owners : List ℕ) → Shared v owners → n ≤ v → Nothing ≡ first bad 0 n
+    pub shared_end : (v : ℕ) (owners : List ℕ) → Shared v owners → n ≤ v → None ≡ first bad 0 n
     shared_end v owners s h = found_none n chosen bad v h s.clean
 
     module _ (v : ℕ) (owners : List ℕ) (s : Shared v owners) where
@@ -168,7 +168,7 @@ module _ (p : ℕ → Bool) (n : ℕ) (rep : ℕ → ℕ) (chosen : ℕ → Bool
         unfolding row_shares
         answer-is = rw (s.come.is_chosen h, sym rivals) (sym met.answers)
 
-        pub shared_found : answer ≡ true → At v ≡ first bad 0 n
+        pub shared_found : answer ≡ true → Some v ≡ first bad 0 n
         shared_found y = found_at n chosen bad v h s.clean (answer-is ∙ y)
 
         module _ (z : answer ≡ false) where
@@ -233,7 +233,7 @@ module _ (p : ℕ → Bool) (n : ℕ) (rep : ℕ → ℕ) (chosen : ℕ → Bool
     pub missed-start : (start : ℕ) → Next chosen n 0 start → Missed start
     missed-start start to = record { come = come_to n chosen 0 start to; clean = clean_start n chosen missing missing_chosen start to }
 
-    pub missed-end : (v : ℕ) → Missed v → n ≤ v → Nothing ≡ first missing 0 n
+    pub missed-end : (v : ℕ) → Missed v → n ≤ v → None ≡ first missing 0 n
     missed-end v s h = found_none n chosen missing v h s.clean
 
     module _ (v : ℕ) (s : Missed v) (h : v < n) (answer : Bool) (e : answer ≡ (p v && asks p n rep (rows v) (λ x. not (known x)))) where
@@ -241,7 +241,7 @@ module _ (p : ℕ → Bool) (n : ℕ) (rep : ℕ → ℕ) (chosen : ℕ → Bool
       unfolding row_misses
       answered = rw (s.come.is_chosen h) (sym e)
 
-      pub missed-found : answer ≡ true → At v ≡ first missing 0 n
+      pub missed-found : answer ≡ true → Some v ≡ first missing 0 n
       missed-found y = found_at n chosen missing v h s.clean (answered ∙ y)
 
       pub missed-step : answer ≡ false → (next : ℕ) → Next chosen n (suc v) next → Missed next

@@ -3,10 +3,6 @@ use Rattle.std.specs.Prelude.{◌≡◌, Bool, true, false, ◌&&◌, ◌||◌, 
 use Rattle.meaning.specs.Walk.{any}
 use Rattle.marks.specs.Marks.{marked}
 
--- the period of record i, begin to end, shares a day with the window from..to
-abbrev pub during : List ℕ → List ℕ → ℕ → ℕ → ℕ → Bool
-during begins ends from to i = ltb (get_or begins i 0) to && ltb from (get_or ends i 0)
-
 -- one of the first n records is in the row and passes
 unfoldable pub some_of : ℕ → (ℕ → Bool) → (ℕ → Bool) → Bool
 some_of n row ask = any (λ f. row f && ask f) 0 n

@@ -1,13 +1,14 @@
 -- What the finder is given lines up what the rule reads: a part of an order is an order, and an order by days is one by places.
 use mathlib.Core.Path.{◌≡◌, refl, sym, ap, ◌∙◌}
+use mathlib.Core.Logic.{⊎_elim}
 use mathlib.Core.Bool.{Bool, true, false, not, ◌&&◌, ◌||◌}
 use mathlib.Core.List.{List}
 use Prim.Native.Nat.{ℕ, ◌-◌, ◌≤◌, ◌<◌}
 use native.Mathlib.Omega.{arith}
 use lib.IntN.{ℤ, pos}
 use lib.Dec.{eqb, leb, ltb}
-use lib.ListN.{length, get_or, take}
-use borrow.Author.Tests.{lt-ltb, le-leb, leb-true, not-true}
+use lib.ListN.{length, get_or, take, replicate, length-replicate}
+use borrow.Author.Tests.{lt-ltb, le-leb, leb-true, not-true, eq-eqb}
 use Rattle.meaning.specs.declared.Rule.{Rule}
 use Rattle.meaning.specs.Block.{limit}
 use Rattle.meaning.specs.Document.{Doc, is_version}
@@ -36,6 +37,7 @@ use Rattle.soonest.specs.Lined.{Line, Begun, Lined, ChosenIn, RowsIn}
 use Rattle.soonest.specs.Given.{Given, Reaching, Earlier}
 use Rattle.soonest.specs.Soon.{Soon}
 use Rattle.soonest.specs.Swept.{Asks, Swept}
+use Rattle.parts.specs.Parts.{Room}
 use Rattle.parts.proofs.Using.{given_least}
 use Rattle.soonest.proofs.Sweeping.{begun-ground, row-version, row_is, row-held}
 use Rattle.soonest.proofs.WindowSoon.{datatype-windows}
@@ -56,6 +58,15 @@ line_of member days column order o rises =
 along : (R : ℕ → ℕ → Type 0) (member : ℕ → Bool) (days column order : List ℕ) → InOrder member days order (length order) → (theirs : List ℕ)
     → ((j : ℕ) → j < length order → R (at theirs (at order j)) (at column (at order j))) → (x : ℕ) → member x ≡ true → R (at theirs x) (at column x)
 along R member days column order o theirs laid x m = let a = o.all x m in rw a.1 at (laid (o.place x) a.0)
+
+-- columns of a function's own have an entry for each of so many records
+pub owned : (n : ℕ) → length (replicate {A = ℕ} n 0) ≡ n
+owned n = length-replicate n 0
+
+pub roomy : {n m : ℕ} → n ≤ m → Room n (replicate m 0) (replicate m 0) (replicate m 0) (replicate m 0)
+roomy {n} {m} h =
+    let e = owned m in
+    record { in_one = omega arith; in_two = omega arith; in_three = omega arith; in_four = omega arith }
 
 -- a record is read that has the mark asked for, or is in a row, or in one of the other rows
 module _ (chosen : List ℕ) (asked : ℕ) (rows others : List ℕ) (n x : ℕ) where
@@ -81,7 +92,7 @@ bounds_of r mode low high t k = let b = rw k at t in (b.1, b.2)
 five : (r : Rule) → rule_fields r ≡ true → 5 ≤ r.kind → r.kind ≡ 5
 five r f h = omega (arith, ((rule_row r).0 f).kind_most)
 
-module _ (doc : Doc) (q r : Rule) (places : Places) (vkinds : List ℕ) (values : List ℤ) (begins ends reps groups opens closes chosen rows others : List ℕ)
+module _ {doc : Doc} {q r : Rule} {places : Places} {vkinds : List ℕ} {values : List ℤ} {begins ends reps groups opens closes chosen rows others : List ℕ}
     (g : Given doc q r places vkinds values begins ends reps groups opens closes chosen rows others) where
   pub size_of : doc.size ≡ length begins
   size_of = sym g.periods.begin.size
@@ -120,7 +131,7 @@ module _ (doc : Doc) (q r : Rule) (places : Places) (vkinds : List ℕ) (values 
       }
 
   -- those that are read have a mark
-  module _ (asked : ℕ) (read : List ℕ) (marks : Marks (is_read chosen asked rows others (length begins)) (length begins) read) where
+  module _ (asked : ℕ) {read : List ℕ} (marks : Marks (is_read chosen asked rows others (length begins)) (length begins) read) where
     -- for each record of either order
     pub opens_covered : Covers opens read
     opens_covered = record { has = λ j l. omega (arith, size_of, marks.room, version-here doc (at opens j) (g.opened.once j l).0) }
@@ -152,7 +163,7 @@ module _ (doc : Doc) (q r : Rule) (places : Places) (vkinds : List ℕ) (values 
         (read-other chosen asked rows others (length begins) f (omega (arith, size_of, row_is doc q others (g.others_are e).0 v f i, row-held doc q v f i)))
 
     -- what was picked of the order by begin
-    module _ (part : List ℕ) (k : ℕ) (picked : Picked (marked read) opens (length opens) part k) (room : k ≤ length part) where
+    module _ {part : List ℕ} {k : ℕ} (picked : Picked (marked read) opens (length opens) part k) (room : k ≤ length part) where
       opened : InOrder member begins (take (k - 0) part) (length (take (k - 0) part))
       opened = part_order (is_version doc) (marked read) begins opens part k g.opened picked room
 
@@ -248,6 +259,10 @@ covers_limit order begins column covers doc periods judgeable h = record { has =
 -- and so does one that is as long as they are
 pub covers_room : (order begins column : List ℕ) → Covers order begins → length begins ≤ length column → Covers order column
 covers_room order begins column covers h = record { has = λ j l. omega (arith, covers.has j l) }
+
+-- whether the kind looks at the selected versions themselves
+pub asks-either : (kind : ℕ) → Asks kind → (eqb kind 1 || eqb kind 4) ≡ true
+asks-either kind a = ⊎_elim (λ e. or_l (eqb kind 1) (eqb kind 4) (eq-eqb kind 1 e)) (λ e. or_r (eqb kind 1) (eqb kind 4) (eq-eqb kind 4 e)) a
 
 -- whether the rule is a datatype in windows
 pub stepped : (windowed kind : ℕ) → not (eqb windowed 0) && leb 5 kind ≡ true → (eqb windowed 0 ≡ false) × (5 ≤ kind)

@@ -5,7 +5,7 @@ use Rattle.meaning.specs.declared.Rule.{Rule}
 use Rattle.meaning.specs.Document.{Doc, is_version}
 use Rattle.meaning.specs.Select.{selected}
 use Rattle.prepare.specs.Rows.{in_row}
-use Rattle.passes.specs.Passes.{at, Rising}
+use Rattle.passes.specs.Passes.{at}
 use Rattle.places.specs.declared.Places.{Places}
 use Rattle.places.specs.Placing.{Low, High}
 

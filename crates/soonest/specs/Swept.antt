@@ -12,6 +12,10 @@ use Rattle.prepare.specs.Keys.{Keys}
 use Rattle.places.specs.declared.Places.{Places}
 use Rattle.places.specs.Placing.{Counted}
 use Rattle.soonest.specs.Lined.{Line, Lined, ChosenIn, RowsIn}
+use Rattle.soonest.specs.declared.Picked.{Picked}
+use Rattle.soonest.specs.declared.Surveyed.{Surveyed}
+use Rattle.soonest.specs.declared.sweeps.Course.{Course}
+use Rattle.soonest.specs.declared.sweeps.Terms.{Terms}
 
 -- the kind looks at the selected versions themselves: a key, a cardinality
 abbrev pub Asks : ℕ → Type 0
@@ -35,3 +39,13 @@ pub record Swept (doc : Doc) (q r : Rule) (places : Places) (order closes chosen
   pub kind_least : 1 ≤ kind
   pub kind_most : kind ≤ 5
   pub bounds : r.kind ≡ 4 → (pos low ≡ r.low) × (pos high ≡ r.high)
+
+-- the same of what is known of the document, what is picked out, what is lined up and what the rule asks, lent together
+abbrev pub SweptBy : Doc → Rule → Rule → Places → Surveyed → Picked → Course → Terms → Type 0
+SweptBy doc q r places u p course t =
+    Swept doc q r places course.order.now course.closes.now p.chosen.now p.row.now p.other.now u.rep.now course.lo.now course.hi.now t.kind t.low t.high
+
+-- the same of what is known of the document, what is picked out and what is lined up, lent together
+abbrev pub SweptOf : Doc → Rule → Rule → Places → Surveyed → Picked → Course → ℕ → ℕ → Type 0
+SweptOf doc q r places u p course low high =
+    Swept doc q r places course.order.now course.closes.now p.chosen.now p.row.now p.other.now u.rep.now course.lo.now course.hi.now r.kind low high

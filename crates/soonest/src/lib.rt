@@ -7,12 +7,12 @@ ghost use Rattle.calendar.specs.Entries.{MonthTable};
 ghost use Rattle.meaning.specs.declared.Rule.{Rule};
 ghost use Rattle.meaning.specs.Document.{Doc};
 ghost use Rattle.meaning.specs.Rules.{rule_fields};
-ghost use Rattle.soonest.specs.Given.{Given};
+ghost use Rattle.soonest.specs.Given.{GivenOf};
 ghost use Rattle.soonest.specs.Soon.{Soon};
 ghost use Rattle.soonest.specs.Swept.{Asks};
 
+use columns::Records;
 use meaning::Rule;
-use parts::sooner;
 use places::Places;
 
 pub mod on_days; // on_days.rt: a sequenced rule, by its kind
@@ -21,52 +21,50 @@ pub mod stepping; // stepping.rt: a datatype in windows
 pub mod sweeps; // sweeps.rt: every other rule, lined up and swept, nils aside
 pub mod nils; // nils.rt: the nils that a key and a reference do not take
 
+// What a rule picks out: a mark on each version that it selects, in whose row each record is, and the rows of the rule that a reference refers to.
+#[derive(Clone, Copy)]
+pub struct Picked<'a> {
+    pub chosen: &'a [u8],
+    pub row: &'a [u16],
+    pub other: &'a [u16],
+}
+
+// What is known of a document once for all rules: representatives of values, groups of items, and the versions in the order of their begins and of their ends.
+#[derive(Clone, Copy)]
+pub struct Surveyed<'a> {
+    pub rep: &'a [u16],
+    pub group: &'a [u16],
+    pub opens: &'a [u16],
+    pub closes: &'a [u16],
+}
+
 // The mark of the selected versions that the kind looks at themselves: 1 for a key and a cardinality; for the others one that no version has.
 fn asked(kind: u8) -> u8
     ensures { Asks kind → result ≡ 1 }
 {
-    if kind == 1 {
-        return 1;
-    }
-    if kind == 4 {
+    if (kind == 1) | (kind == 4) {
         return 1;
     }
     2
 }
 
-// The soonest place at which the rule can fail, 65,535 where it fails at none: no version offends at any place before it. What the rule picks out
-// is in `chosen` and `row`, and in `other` the rows of the rule that it refers to, if it is a reference. Cost: a pass over the records, one along
-// the versions by begin, for a cardinality one by end, for a key and a reference one for nils, the places of each one that is read, and that of the parts
-// that the kind has.
+// The soonest place at which the rule can fail, 65,535 where it fails at none: no version offends at any place before it. Cost: a pass over the
+// records, one along the versions by begin, for a cardinality one by end, for a key and a reference one for nils, the places of each one that is read,
+// and that of the parts that the kind has.
 pub fn soonest(
-    vkind: &[u8],
-    value: &[i32],
-    begin: &[u16],
-    end: &[u16],
-    rep: &[u16],
-    group: &[u16],
-    opens: &[u16],
-    closes: &[u16],
-    chosen: &[u8],
-    row: &[u16],
-    other: &[u16],
+    records: Records,
+    of: Surveyed,
+    picked: Picked,
     table: &[u16; 1201],
     at: Places,
     rule: Rule,
 ) -> u16
-    requires { MonthTable table.now × (rule_fields rule ≡ true) × ((doc : Doc) × (q : Rule) × Given doc q rule at vkind.now value.now begin.now end.now rep.now group.now opens.now closes.now chosen.now row.now other.now) }
-    ensures { (doc : Doc) → (q : Rule) → Given doc q rule at vkind.now value.now begin.now end.now rep.now group.now opens.now closes.now chosen.now row.now other.now → Soon doc q rule at result }
+    requires { MonthTable table.now × (rule_fields rule ≡ true) × ((doc : Doc) × (q : Rule) × GivenOf doc q rule at records «of» picked) }
+    ensures { (doc : Doc) → (q : Rule) → GivenOf doc q rule at records.entry «of».entry picked.entry → Soon doc q rule at result }
 {
     if (rule.windowed != 0) & (5 <= rule.kind) {
-        return stepping::stepping(
-            vkind, value, begin, end, group, opens, closes, chosen, row, other, table, at, rule,
-        );
+        return stepping::stepping(records, of, picked, table, at, rule);
     }
-    let swept = sweeps::sweeping(
-        begin, end, rep, group, opens, closes, chosen, row, other, table, at, rule,
-    );
-    sooner(
-        swept,
-        nils::soonest_nil(vkind, row, begin, end, opens, table, at, rule),
-    )
+    let swept = sweeps::sweeping(records, of, picked, table, at, rule);
+    swept.min(nils::soonest_nil(records, picked.row, of.opens, table, at, rule))
 }

@@ -6,6 +6,7 @@ ghost use Rattle.meaning.specs.Document.{Doc};
 ghost use Rattle.soonest.specs.Soon.{Unspoilt};
 ghost use Rattle.soonest.specs.Nils.{Nilled};
 
+use columns::Records;
 use meaning::Rule;
 use numbers::index;
 use passes::NEVER;
@@ -22,28 +23,24 @@ fn in_row(vkind: &[u8], row: &[u16], f: usize) -> bool
 // A place no later than any at which a nil in a row is present; NEVER where there is none. Of the nils in rows, by their begins, the first that has a
 // place has the soonest. Cost: three looks for each version, and the places of each such nil up to the first that has one.
 pub fn soonest_nil(
-    vkind: &[u8],
+    records: Records,
     row: &[u16],
-    begin: &[u16],
-    end: &[u16],
     opens: &[u16],
     table: &[u16; 1201],
     at: Places,
     rule: Rule,
 ) -> u16
-    requires { MonthTable table.now × ((doc : Doc) × Nilled doc rule at vkind.now row.now begin.now end.now opens.now) }
-    ensures { (doc : Doc) → Nilled doc rule at vkind.now row.now begin.now end.now opens.now → Unspoilt doc rule at result }
+    requires { MonthTable table.now × ((doc : Doc) × Nilled doc rule at records.vkind.now row.now records.begin.now records.end.now opens.now) }
+    ensures { (doc : Doc) → Nilled doc rule at records.entry.vkind.now row.now records.entry.begin.now records.entry.end.now opens.now → Unspoilt doc rule at result }
 {
     if !((rule.kind == 1) | (rule.kind == 3)) {
         return NEVER;
     }
-    let mut i = 0;
-    while i < opens.len() {
-        let f = index(opens[i]);
-        i += 1;
-        if in_row(vkind, row, f) {
-            let lo = places::low(table, at, begin[f]);
-            if lo < places::high(table, at, end[f]) {
+    for &number in opens {
+        let f = index(number);
+        if in_row(records.vkind, row, f) {
+            let lo = places::low(table, at, records.begin[f]);
+            if lo < places::high(table, at, records.end[f]) {
                 return lo;
             }
         }

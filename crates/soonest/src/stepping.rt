@@ -2,152 +2,116 @@
 ghost use Rattle.std.specs.Prelude.{◌≡◌, true, false, List, ℕ, ◌≤◌, length};
 ghost use Rattle.calendar.specs.Entries.{MonthTable};
 ghost use Rattle.meaning.specs.declared.Rule.{Rule};
+ghost use Rattle.meaning.specs.Block.{limit};
 ghost use Rattle.meaning.specs.Document.{Doc};
-ghost use Rattle.meaning.specs.Window.{least};
 ghost use Rattle.meaning.specs.Rules.{is_sequenced, rule_fields};
 ghost use Rattle.columns.specs.Judgeable.{Judgeable};
 ghost use Rattle.prepare.specs.Rows.{KnownOnly};
 ghost use Rattle.places.specs.Placing.{Counted};
-ghost use Rattle.steps.specs.Places.{Closing};
+ghost use Rattle.steps.specs.Places.{ClosingOf};
 ghost use Rattle.passes.specs.Passes.{Covers};
-ghost use Rattle.soonest.specs.Given.{Given, Reaching, Earlier};
-ghost use Rattle.parts.specs.Parts.{Room};
+ghost use Rattle.soonest.specs.Given.{GivenSteps, Reaching, Earlier};
 ghost use Rattle.soonest.specs.Soon.{Soon};
 
-use crate::asked;
-use columns::LIMIT;
+use crate::{Picked, Surveyed, asked};
+use columns::{LIMIT, Records};
 use meaning::Rule;
+use passes::Spans;
+use picking::Rows;
 use places::Places;
 use prepare::SMALL;
-
-// The earlier of two days. Cost: one test.
-fn earlier(a: u16, b: u16) -> u16
-    ensures { result ≡ least a b }
-{
-    if a <= b {
-        return a;
-    }
-    b
-}
 
 // For each of n records the earlier of two days. Cost: one pass.
 fn earlier_days(one: &[u16], other: &[u16], n: usize, out: &mut [u16])
     requires { (n ≤ length one.now) × (n ≤ length other.now) × (n ≤ length out.old) }
     ensures { Earlier n one.now other.now out.new }
 {
-    let mut i = 0;
-    while i < n {
-        out[i] = earlier(one[i], other[i]);
-        i += 1;
+    for i in 0..n {
+        out[i] = one[i].min(other[i]);
     }
 }
 
 // For each record of an order the place from which on it is not present, or no window reaches back far enough for it to offend the datatype rule,
 // into a lent column. Cost: that of the reaches, a pass over the records and one along the order.
 fn reaching(
-    vkind: &[u8],
-    value: &[i32],
-    begin: &[u16],
-    end: &[u16],
-    group: &[u16],
-    closes: &[u16],
-    row: &[u16],
+    records: Records,
+    of: Surveyed,
+    picked: Picked,
     order: &[u16],
     table: &[u16; 1201],
     at: Places,
     rule: Rule,
     until: &mut [u16],
 )
-    requires { MonthTable table.now × Counted at × Covers order.now begin.now × (length begin.now ≤ length until.old) × ((doc : Doc) × Closing doc rule vkind.now value.now begin.now end.now row.now group.now closes.now × Judgeable doc) }
-    ensures { (doc : Doc) → Closing doc rule vkind.now value.now begin.now end.now row.now group.now closes.now → Judgeable doc → KnownOnly doc rule → Reaching doc rule at order.now until.new }
+    requires { MonthTable table.now × Counted at × Covers order.now records.begin.now × (length records.begin.now ≤ length until.old) × ((doc : Doc) × ClosingOf doc rule records picked.row.now «of».group.now «of».closes.now × Judgeable doc) }
+    ensures { (doc : Doc) → ClosingOf doc rule records.entry picked.entry.row.now «of».entry.group.now «of».entry.closes.now → Judgeable doc → KnownOnly doc rule → Reaching doc rule at order.now until.new }
 {
     let reach = steps::reaches_swept(
-        vkind, value, begin, end, row, group, closes, rule.low, rule.high,
+        records, picked.row, of.group, of.closes, rule.low, rule.high,
     );
     let mut last = [0u16; LIMIT];
-    earlier_days(&reach, end, begin.len(), &mut last);
+    earlier_days(&reach, records.end, records.begin.len(), &mut last);
     picking::lay_high(table, at, &last, order, until);
 }
 
-// The soonest place of a datatype in windows, with columns lent for what it reads. Cost: as for `soonest`.
-fn stepping_lent(
-    vkind: &[u8],
-    value: &[i32],
-    begin: &[u16],
-    end: &[u16],
-    group: &[u16],
-    opens: &[u16],
-    closes: &[u16],
-    chosen: &[u8],
-    row: &[u16],
-    other: &[u16],
+// The soonest place of a datatype in windows, with columns of its own for what it reads, which have room for N records. Cost: as for `soonest`.
+fn stepping_in<const N: usize>(
+    records: Records,
+    of: Surveyed,
+    picked: Picked,
     table: &[u16; 1201],
     at: Places,
     rule: Rule,
-    read: &mut [u8],
-    order: &mut [u16],
-    lo: &mut [u16],
-    until: &mut [u16],
 ) -> u16
-    requires { Room (length begin.now) read.old order.old lo.old until.old × MonthTable table.now × (rule_fields rule ≡ true) × (is_sequenced rule ≡ false) × (5 ≤ rule.kind) × ((doc : Doc) × (q : Rule) × (reps : List ℕ) × Given doc q rule at vkind.now value.now begin.now end.now reps group.now opens.now closes.now chosen.now row.now other.now) }
-    ensures { (doc : Doc) → (q : Rule) → (reps : List ℕ) → Given doc q rule at vkind.now value.now begin.now end.now reps group.now opens.now closes.now chosen.now row.now other.now → Soon doc q rule at result }
+    requires { ((length records.begin.now ≤ N) × (N ≤ limit)) × MonthTable table.now × (rule_fields rule ≡ true) × (is_sequenced rule ≡ false) × (5 ≤ rule.kind) × ((doc : Doc) × (q : Rule) × (reps : List ℕ) × GivenSteps doc q rule at reps records «of» picked) }
+    ensures { (doc : Doc) → (q : Rule) → (reps : List ℕ) → GivenSteps doc q rule at reps records.entry «of».entry picked.entry → Soon doc q rule at result }
 {
-    let n = begin.len();
-    picking::read_marks(chosen, asked(rule.kind), row, other, n, read);
-    let many = picking::pick(opens, read, order);
-    picking::lay_low(table, at, begin, &order[0..many], lo);
+    let n = records.begin.len();
+    let mut read = [0u8; N];
+    let mut order = [0u16; N];
+    let mut lo = [0u16; N];
+    let mut until = [0u16; N];
+    let rows = Rows {
+        row: picked.row,
+        other: picked.other,
+        n,
+    };
+    picking::read_marks(picked.chosen, asked(rule.kind), rows, &mut read);
+    let many = picking::pick(of.opens, &read, &mut order);
+    let order = &order[..];
+    picking::lay_low(table, at, records.begin, &order[0..many], &mut lo);
     reaching(
-        vkind,
-        value,
-        begin,
-        end,
-        group,
-        closes,
-        row,
+        records,
+        of,
+        picked,
         &order[0..many],
         table,
         at,
         rule,
-        until,
+        &mut until,
     );
-    passes::least(&order[0..many], row, lo, until, n)
+    let spans = Spans {
+        key: picked.row,
+        lo: &lo,
+        hi: &until,
+    };
+    passes::least(&order[0..many], spans, n)
 }
 
-// The same, with the columns: small ones where they serve, since clearing them takes time. Cost: as for `soonest`.
+// The same: small columns where they serve, since clearing them takes time. Cost: as for `soonest`.
 pub fn stepping(
-    vkind: &[u8],
-    value: &[i32],
-    begin: &[u16],
-    end: &[u16],
-    group: &[u16],
-    opens: &[u16],
-    closes: &[u16],
-    chosen: &[u8],
-    row: &[u16],
-    other: &[u16],
+    records: Records,
+    of: Surveyed,
+    picked: Picked,
     table: &[u16; 1201],
     at: Places,
     rule: Rule,
 ) -> u16
-    requires { MonthTable table.now × (rule_fields rule ≡ true) × (is_sequenced rule ≡ false) × (5 ≤ rule.kind) × ((doc : Doc) × (q : Rule) × (reps : List ℕ) × Given doc q rule at vkind.now value.now begin.now end.now reps group.now opens.now closes.now chosen.now row.now other.now) }
-    ensures { (doc : Doc) → (q : Rule) → (reps : List ℕ) → Given doc q rule at vkind.now value.now begin.now end.now reps group.now opens.now closes.now chosen.now row.now other.now → Soon doc q rule at result }
+    requires { MonthTable table.now × (rule_fields rule ≡ true) × (is_sequenced rule ≡ false) × (5 ≤ rule.kind) × ((doc : Doc) × (q : Rule) × (reps : List ℕ) × GivenSteps doc q rule at reps records «of» picked) }
+    ensures { (doc : Doc) → (q : Rule) → (reps : List ℕ) → GivenSteps doc q rule at reps records.entry «of».entry picked.entry → Soon doc q rule at result }
 {
-    if begin.len() <= SMALL {
-        let mut read = [0u8; SMALL];
-        let mut order = [0u16; SMALL];
-        let mut lo = [0u16; SMALL];
-        let mut until = [0u16; SMALL];
-        return stepping_lent(
-            vkind, value, begin, end, group, opens, closes, chosen, row, other, table, at, rule,
-            &mut read, &mut order, &mut lo, &mut until,
-        );
+    if records.begin.len() <= SMALL {
+        return stepping_in::<SMALL>(records, of, picked, table, at, rule);
     }
-    let mut read = [0u8; LIMIT];
-    let mut order = [0u16; LIMIT];
-    let mut lo = [0u16; LIMIT];
-    let mut until = [0u16; LIMIT];
-    stepping_lent(
-        vkind, value, begin, end, group, opens, closes, chosen, row, other, table, at, rule,
-        &mut read, &mut order, &mut lo, &mut until,
-    )
+    stepping_in::<LIMIT>(records, of, picked, table, at, rule)
 }

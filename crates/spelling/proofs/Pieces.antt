@@ -1,12 +1,12 @@
 -- A text put together: byte by byte, and two pieces after one another as one.
 use mathlib.Core.Path.{◌≡◌, refl, sym, ap, ◌∙◌}
 use mathlib.Core.Logic.{⊎_elim}
-use mathlib.Core.List.{List, [], ◌∷◌, ◌++◌}
-use Prim.Native.Nat.{ℕ, suc, ◌+◌, ◌-◌, ◌≤◌, ◌<◌}
-use native.Mathlib.Numerals.{add-one}
+use mathlib.Core.List.{List, [], ◌∷◌, ◌++◌, append_assoc}
+use Prim.Native.Nat.{ℕ, zero, suc, ◌+◌, ◌-◌, ◌≤◌, ◌<◌, min}
 use native.Mathlib.Omega.{arith}
-use lib.ListN.{length, take, drop, set, get_or, length-append, length-set}
-use lib.Seq.{sets, length-sets, sets-eq, set_out, drop-cons, drop-length, take_at}
+use lib.ListN.{length, take, drop, set, length-append, length-set, length-take}
+use lib.Seq.{sets, length-sets, sets-eq, set_out, take_at, take_all}
+use borrow.Rule.Slice.PartMut.{put_mid, Post-is}
 use Rattle.meaning.proofs.Basics.{le_or_lt}
 use Rattle.spelling.specs.Puts.{Puts}
 
@@ -19,35 +19,30 @@ sets_append : (l : List ℕ) (i : ℕ) (a b : List ℕ) → sets l i (a ++ b) �
 sets_append l i [] b = let e : i + 0 ≡ i = omega arith in rw e
 sets_append l i (x ∷ a) b = let e : i + suc (length a) ≡ suc i + length a = omega arith in rw e (sets_append (set l i x) (suc i) a b)
 
--- i bytes of the piece are put: putting the others gives what putting all would have given
-pub record Putting (old : List ℕ) (at : ℕ) (piece now : List ℕ) (to i : ℕ) : Type 0 where
-  pub size : length now ≡ length old
-  pub some : i ≤ length piece
-  pub fit : i ≤ length old - at
-  pub place : to ≡ at + i
-  pub rest : sets now to (drop i piece) ≡ sets old at piece
+-- nor is what a piece has past the room behind its place
+sets_cut : (l : List ℕ) (i n : ℕ) (a : List ℕ) → length l ≤ i + n → sets l i (take n a) ≡ sets l i a
+sets_cut l i zero a h = sym (sets_out l i a (omega arith))
+sets_cut l i (suc n) [] h = refl
+sets_cut l i (suc n) (x ∷ a) h = sets_cut (set l i x) (suc i) n a (omega (arith, length-set l i x))
 
-pub putting_none : (old : List ℕ) (at : ℕ) (piece : List ℕ) → Putting old at piece old at 0
-putting_none old at piece = record { size = refl; some = omega arith; fit = omega arith; place = omega arith; rest = refl }
+-- a piece that is put past the end: nothing is stored
+pub puts_past : {l piece : List ℕ} {at : ℕ} → length l ≤ at → Puts l at piece l at
+puts_past {l} {piece} {at} h = record { text = sym (sets_out l at piece h); place = omega arith }
 
-module _ {old : List ℕ} {at : ℕ} {piece now : List ℕ} {to i : ℕ} (p : Putting old at piece now to i) where
-  pub putting_more : i < length piece → to < length now → Putting old at piece (set now to (get_or piece i 0)) (to + 1) (i + 1)
-  putting_more h f =
-      record {
-        size = length-set now to (get_or piece i 0) ∙ p.size;
-        some = omega arith;
-        fit = omega (arith, p.place, p.size);
-        place = omega (arith, p.place);
-        rest = rw (add-one to, add-one i) (ap (λ l. sets now to l) (sym (drop-cons piece i 0 h)) ∙ p.rest);
-      }
-
-  pub putting_full : i < length piece → length now ≤ to → Puts old at piece now to
-  putting_full h f = record { text = sym (sets_out now to (drop i piece) f) ∙ p.rest; place = omega (arith, p.place, p.size, p.fit) }
-
-  pub putting_all : length piece ≤ i → Puts old at piece now to
-  putting_all h =
-      let e : i ≡ length piece = omega (arith, p.some) in
-      record { text = ap (λ l. sets now to l) (sym (ap (λ k. drop k piece) e ∙ drop-length piece)) ∙ p.rest; place = omega (arith, p.place, p.fit, e) }
+-- the part of a piece for which there is room, copied to its place
+pub puts_front : {l piece part : List ℕ} {at n : ℕ} → at ≤ length l → n ≡ min (length piece) (length l - at) → part ≡ take n piece
+    → Puts l at piece (put_mid at (at + n - at) l part) (at + n)
+puts_front {l} {piece} {part} {at} {n} h e p =
+    let long : length (take n piece) ≡ n = simp length-take (omega arith) in
+    let fits : at + n ≤ length l = omega arith in
+    let stored : put_mid at (at + n - at) l part ≡ sets l at (take n piece) =
+    rw (p, Post-is at (at + n) l (omega arith)) (sym (sets-eq (take n piece) l at (omega (arith, long)) ∙ append_assoc (take at l) (take n piece) _ ∙ rw long)) in
+    let all : sets l at (take n piece) ≡ sets l at piece =
+    ⊎_elim
+    (λ whole. ap (sets l at) (take_all n piece whole))
+    (λ short. sets_cut l at n piece (omega arith))
+    (le_or_lt (length piece) n) in
+    record { text = stored ∙ all; place = omega arith }
 
 -- nothing put
 pub puts_none : (l : List ℕ) (at : ℕ) → Puts l at [] l at

@@ -1,16 +1,17 @@
 -- The lines of a report (MEANING 15): one space parts the fields, and a line feed ends each.
-use Rattle.std.specs.Prelude.{List, ◌++◌, ℕ}
+use Rattle.meaning.specs.declared.Refusal.{Refusal}
+use Rattle.std.specs.Prelude.{List, ◌++◌, ℕ, Err, Ok, Result}
 use Rattle.meaning.specs.declared.Verdict.{Verdict}
-use Rattle.meaning.specs.declared.Verdict.TheVariants.{Holds, Fails, Refused}
+use Rattle.meaning.specs.declared.Verdict.TheVariants.{Holds, Fails}
 use Rattle.spelling.specs.Spelled.{word, decimal, spaced}
 
 -- what stands after a rule's number: the verdict, the day and the record (dashes where the rule holds), and the count
-unfoldable pub told : Verdict → List ℕ
-told (Holds count) = word " holds - -" ++ spaced count
-told (Fails day offender count) = word " fails" ++ spaced day ++ spaced offender ++ spaced count
-told (Refused number place) = word " refused" ++ spaced number ++ spaced place
+unfoldable pub told : Result Verdict Refusal → List ℕ
+told (Ok (Holds count)) = word " holds - -" ++ spaced count
+told (Ok (Fails day offender count)) = word " fails" ++ spaced day ++ spaced offender ++ spaced count
+told (Err why) = word " refused" ++ spaced why.number ++ spaced why.place
 
-unfoldable pub rule_line : ℕ → Verdict → List ℕ
+unfoldable pub rule_line : ℕ → Result Verdict Refusal → List ℕ
 rule_line k found = decimal k ++ told found ++ word "\n"
 
 unfoldable pub header : List ℕ

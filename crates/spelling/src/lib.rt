@@ -11,24 +11,19 @@ pub mod lines; // lines.rt: the lines of a report
 pub fn front(s: &[u8], n: usize) -> &[u8]
     ensures { result.now ≡ take n s.now }
 {
-    if n <= s.len() { &s[0..n] } else { s }
+    &s[..n.min(s.len())]
 }
 
 // Puts a piece at `at`, and gives the place after it.
 pub fn put(text: &mut [u8], at: usize, piece: &[u8]) -> usize
     ensures { Puts text.old at piece.now text.new result }
 {
-    let mut to = at;
-    let mut i = 0;
-    while i < piece.len() {
-        if text.len() <= to {
-            return to;
-        }
-        text[to] = piece[i];
-        to += 1;
-        i += 1;
+    if text.len() <= at {
+        return at;
     }
-    to
+    let n = piece.len().min(text.len() - at);
+    text[at..at + n].copy_from_slice(&piece[..n]);
+    at + n
 }
 
 // Puts a number in decimal.

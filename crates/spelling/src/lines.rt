@@ -3,7 +3,7 @@ ghost use Rattle.spelling.specs.Puts.{Puts};
 ghost use Rattle.spelling.specs.Lines.{told, rule_line, header, refused_line, unreadable_line};
 
 use crate::{put, put_next, put_number};
-use meaning::Verdict;
+use meaning::{Refusal, Verdict};
 
 // The line of a file that cannot be read.
 pub fn unreadable(text: &mut [u8], name: &[u8]) -> usize
@@ -15,21 +15,21 @@ pub fn unreadable(text: &mut [u8], name: &[u8]) -> usize
 }
 
 // What a verdict says: the word, the day, the record (dashes where the rule holds) and the count.
-pub fn put_verdict(text: &mut [u8], at: usize, found: Verdict) -> usize
+pub fn put_verdict(text: &mut [u8], at: usize, found: Result<Verdict, Refusal>) -> usize
     ensures { Puts text.old at (told found) text.new result }
 {
     match found {
-        Verdict::Holds(count) => {
+        Ok(Verdict::Holds(count)) => {
             let word = put(text, at, b" holds - -");
             put_next(text, word, count)
         }
-        Verdict::Fails(day, record, count) => {
+        Ok(Verdict::Fails(day, record, count)) => {
             let word = put(text, at, b" fails");
             let first = put_next(text, word, day);
             let second = put_next(text, first, record);
             put_next(text, second, count)
         }
-        Verdict::Refused(number, place) => {
+        Err(Refusal { number, place }) => {
             let word = put(text, at, b" refused");
             let first = put_next(text, word, number);
             put_next(text, first, place)
@@ -48,7 +48,7 @@ pub fn put_refusal(text: &mut [u8], number: usize, place: usize) -> usize
 }
 
 // The line on rule k.
-pub fn put_rule(text: &mut [u8], at: usize, k: usize, found: Verdict) -> usize
+pub fn put_rule(text: &mut [u8], at: usize, k: usize, found: Result<Verdict, Refusal>) -> usize
     ensures { Puts text.old at (rule_line k found) text.new result }
 {
     let number = put_number(text, at, k);

@@ -2,18 +2,17 @@
 use mathlib.Core.Path.{◌≡◌, sym, ap, ◌∙◌}
 use mathlib.Core.Bool.{Bool, true, false, cond}
 use mathlib.Core.List.{List}
-use Prim.Native.Nat.{ℕ, ◌-◌, ◌≤◌, ◌<◌}
+use Prim.Native.Nat.{ℕ, ◌-◌, ◌≤◌, ◌<◌, max}
 use native.Mathlib.Omega.{arith}
 use mathlib.Core.Logic.{⊎_elim}
-use lib.Dec.{ltb}
 use lib.ListN.{length, get_or, take, replicate, length-replicate, get_or-replicate, get_or-eq_default}
 use lib.Seq.{length-take-le, get_or-take}
-use borrow.Author.Tests.{eq-eqb, ne_eqb, le-leb, lt-leb}
+use borrow.Author.Tests.{eq-eqb, ne_eqb, le-leb, lt-leb, lt-ltb, le-ltb}
 use Rattle.meaning.specs.Block.{limit}
 use Rattle.meaning.specs.declared.Rule.{Rule}
 use Rattle.meaning.specs.Document.{Doc, number_of}
 use Rattle.meaning.specs.Select.{selected}
-use Rattle.meaning.proofs.Basics.{went, le_or_lt}
+use Rattle.meaning.proofs.Basics.{le_or_lt}
 use Rattle.columns.specs.Chains.{past_last, keyed, Chained}
 use Rattle.columns.proofs.Along.{past-low}
 use Rattle.prepare.specs.Keys.{Keys}
@@ -67,9 +66,13 @@ module _ (v n vkind until parting : ℕ) where
     unfolding settled_as
     settled_parted t p = rw (lt-leb n v (omega arith), eq-eqb vkind 1 t, ne_eqb parting 0 p)
 
--- the later of two places is no later than what neither is later than
-pub greater-most : (x y n t : ℕ) → t ≡ greater x y → x ≤ n → y ≤ n → t ≤ n
-greater-most x y n t e a b = rw e (⊎_elim (λ (w : ltb x y ≡ true). rw w b) (λ (w : ltb x y ≡ false). rw w a) (went (ltb x y)))
+-- the maximum is the greater
+greater_max : (x y : ℕ) → max x y ≡ greater x y
+greater_max x y = ⊎_elim (λ h. rw (le-ltb x y h) (omega arith)) (λ h. rw (lt-ltb x y h) (omega arith)) (le_or_lt y x)
+
+-- so the end at the later of two places
+pub end-later : (ends order : List ℕ) (x y t : ℕ) {e : ℕ} → e ≡ end_at ends order t → t ≡ max x y → e ≡ end_at ends order (greater x y)
+end-later ends order x y t p q = p ∙ ap (end_at ends order) (q ∙ greater_max x y)
 
 -- the chains of the classes along an order; the kinds are all 2
 module _ (n : ℕ) (keys groups order classes whole last lower : List ℕ) (few : n ≤ limit) (placed : Placed n order)

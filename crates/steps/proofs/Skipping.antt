@@ -8,10 +8,9 @@ use native.Mathlib.Nat.{eq-or-lt_of_le}
 use native.Mathlib.Omega.{arith}
 use lib.Dec.{ltb}
 use lib.ListN.{length, get_or}
-use Rattle.meaning.specs.declared.Found.{Found}
-use Rattle.meaning.specs.declared.Found.TheVariants.{At, Nothing}
+use Rattle.std.specs.Prelude.{Some, None}
 use Rattle.meaning.specs.declared.Rule.{Rule}
-use Rattle.meaning.specs.Walk.{first}
+use Rattle.meaning.specs.Walk.{first, Found}
 use Rattle.meaning.specs.Document.{Doc, is_version}
 use Rattle.meaning.specs.Rules.{is_sequenced}
 use Rattle.meaning.specs.Window.{Window, meets, offends_in}
@@ -47,11 +46,11 @@ module _ (begins ends reach : List ℕ) (from to n start : ℕ) (next : List ℕ
   pub looked_start : Looked begins ends reach from to start
   looked_start = record { none = λ k h. unchosen k ((after_is chosen n 0 (omega arith)).before k (omega arith) (omega (arith, way.start_is))) }
 
-  pub looked_end : (f : ℕ) → Looked begins ends reach from to f → n ≤ f → Nothing ≡ first passes 0 n
+  pub looked_end : (f : ℕ) → Looked begins ends reach from to f → n ≤ f → None ≡ first passes 0 n
   looked_end f s h = sym (first-none passes 0 n (λ k _ b. s.none k (omega arith)))
 
   module _ (f : ℕ) (s : Looked begins ends reach from to f) (h : f < n) where
-    pub looked_found : passes f ≡ true → At f ≡ first passes 0 n
+    pub looked_found : passes f ≡ true → Some f ≡ first passes 0 n
     looked_found t = sym (first-at passes f 0 n (omega arith) (omega arith) t (λ k _ b. s.none k b))
 
     module _ (after : ℕ) (e : after ≡ get_or next f 0) where

@@ -6,6 +6,7 @@ use Rattle.meaning.specs.Block.{limit}
 use Rattle.meaning.specs.Document.{Doc, is_version, number_of}
 use Rattle.meaning.specs.Select.{selected}
 use Rattle.columns.specs.Lent.{Lends, Periods}
+use Rattle.columns.specs.declared.Records.{Records}
 use Rattle.prepare.specs.Keys.{Keys}
 use Rattle.groups.specs.Groups.{Groups, in_group}
 use Rattle.steps.specs.Greatest.{Chain, greater}
@@ -27,6 +28,10 @@ pub record Closing (doc : Doc) (r : Rule) (vkinds : List ℕ) (values : List ℤ
   pub classes : Groups doc groups
   pub few : length closes ≤ limit
   pub order : Sorted doc doc.end closes
+
+-- the same of columns lent together
+abbrev pub ClosingOf : Doc → Rule → Records → List ℕ → List ℕ → List ℕ → Type 0
+ClosingOf doc r s keys groups closes = Closing doc r s.vkind.now s.value.now s.begin.now s.end.now keys groups closes
 
 -- the field version at place j is under item number n
 abbrev pub group_at : Doc → Rule → List ℕ → ℕ → ℕ → Bool

@@ -3,7 +3,7 @@ ghost use Rattle.std.specs.Prelude.{◌≡◌, ◌-◌, ◌<◌, ◌≤◌, pos,
 ghost use Rattle.std.specs.Int.Signed.{mag};
 ghost use Rattle.steps.specs.Levels.{raised, level_of, bound_of, Placed, Levelled};
 
-use columns::LIMIT;
+use columns::{LIMIT, Records};
 use numbers::index;
 
 // The stack of ends, that of begins counted down, that of values, and that of values counted down.
@@ -29,16 +29,6 @@ pub fn raised(z: i32) -> u64
     2147483647 - size
 }
 
-// The difference of two numbers, 0 where the second is larger. Cost: one test.
-fn less(a: u64, b: u64) -> u64
-    ensures { result ≡ a - b }
-{
-    if b <= a {
-        return a - b;
-    }
-    0
-}
-
 // The level of a field version in a stack. Cost: at most four tests.
 fn level_of(which: u8, vkind: u8, value: i32, begin: u16, end: u16) -> u64
     ensures { result ≡ level_of which vkind value begin end }
@@ -59,11 +49,17 @@ fn level_of(which: u8, vkind: u8, value: i32, begin: u16, end: u16) -> u64
 }
 
 // The level of record p, whose value is a number of 32 bits. Cost: that of the level, and four looks.
-fn level_at(which: u8, vkind: &[u8], value: &[i32], begin: &[u16], end: &[u16], p: usize) -> u64
-    requires { (p < length vkind.now) × (length vkind.now ≤ length value.now) × (length vkind.now ≤ length begin.now) × (length vkind.now ≤ length end.now) }
-    ensures { (result ≡ level_of which (get_or vkind.now p 0) (get_or value.now p (pos 0)) (get_or begin.now p 0) (get_or end.now p 0)) × (mag (get_or value.now p (pos 0)) < 2147483648) }
+fn level_at(which: u8, records: Records, p: usize) -> u64
+    requires { (p < length records.vkind.now) × (length records.vkind.now ≤ length records.value.now) × (length records.vkind.now ≤ length records.begin.now) × (length records.vkind.now ≤ length records.end.now) }
+    ensures { (result ≡ level_of which (get_or records.entry.vkind.now p 0) (get_or records.entry.value.now p (pos 0)) (get_or records.entry.begin.now p 0) (get_or records.entry.end.now p 0)) × (mag (get_or records.entry.value.now p (pos 0)) < 2147483648) }
 {
-    level_of(which, vkind[p], value[p], begin[p], end[p])
+    level_of(
+        which,
+        records.vkind[p],
+        records.value[p],
+        records.begin[p],
+        records.end[p],
+    )
 }
 
 // The bound for a search in a stack. Cost: at most three tests.
@@ -77,28 +73,19 @@ pub fn bound_of(which: u8, z: i32, low: i32, high: i32, day: u16) -> u64
         return 65536 - (day as u64);
     }
     if which == VALUES {
-        return less(raised(z) + 2147483648, raised(high));
+        return (raised(z) + 2147483648).saturating_sub(raised(high));
     }
-    less(raised(low) + 2147483647, raised(z))
+    (raised(low) + 2147483647).saturating_sub(raised(z))
 }
 
 // The levels of the records in an order. Cost: one pass over it.
-pub fn levels(
-    which: u8,
-    vkind: &[u8],
-    value: &[i32],
-    begin: &[u16],
-    end: &[u16],
-    order: &[u16],
-) -> [u64; LIMIT]
-    requires { (length vkind.now ≤ length value.now) × (length vkind.now ≤ length begin.now) × (length vkind.now ≤ length end.now) × Placed (length vkind.now) order.now }
-    ensures { Levelled which vkind.now value.now begin.now end.now order.now result }
+pub fn levels(which: u8, records: Records, order: &[u16]) -> [u64; LIMIT]
+    requires { (length records.vkind.now ≤ length records.value.now) × (length records.vkind.now ≤ length records.begin.now) × (length records.vkind.now ≤ length records.end.now) × Placed (length records.vkind.now) order.now }
+    ensures { Levelled which records.entry.vkind.now records.entry.value.now records.entry.begin.now records.entry.end.now order.now result }
 {
     let mut out = [0u64; LIMIT];
-    let mut j = 0;
-    while j < order.len() {
-        out[j] = level_at(which, vkind, value, begin, end, index(order[j]));
-        j += 1;
+    for (j, p) in order.iter().enumerate() {
+        out[j] = level_at(which, records, index(*p));
     }
     out
 }

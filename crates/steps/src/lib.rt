@@ -15,11 +15,11 @@ ghost use Rattle.marks.specs.Marks.{Marks};
 ghost use Rattle.prepare.specs.Holders.{Skips};
 ghost use Rattle.prepare.specs.Rows.{KnownOnly};
 ghost use Rattle.steps.specs.Reaching.{Reaches, stepped};
-ghost use Rattle.steps.specs.Places.{Closing};
+ghost use Rattle.steps.specs.Places.{ClosingOf};
 
-use columns::LIMIT;
-use meaning::Found;
+use columns::{LIMIT, Records};
 use numbers::index;
+use sweep::Course;
 
 mod levels; // levels.rt: how high field versions stand in the stacks, and the bounds
 mod places; // places.rt: chains along an order of the field versions, and what is read off at its places
@@ -31,70 +31,50 @@ mod sweep; // sweep.rt: searches along an order of the field versions
 // searches for each record, each of some two looks for each doubling of those under its item number, and a fixed number of passes over the
 // records and the order.
 fn reaches_sought(
-    vkind: &[u8],
-    value: &[i32],
-    begin: &[u16],
-    end: &[u16],
+    records: Records,
     key: &[u16],
     group: &[u16],
     closes: &[u16],
     low: i32,
     high: i32,
 ) -> [u16; LIMIT]
-    requires { (doc : Doc) × (r : Rule) × Closing doc r vkind.now value.now begin.now end.now key.now group.now closes.now × Judgeable doc }
-    ensures { (doc : Doc) (r : Rule) → Closing doc r vkind.now value.now begin.now end.now key.now group.now closes.now → Judgeable doc → KnownOnly doc r → low ≡ r.low → high ≡ r.high → Reaches doc r result }
+    requires { (doc : Doc) × (r : Rule) × ClosingOf doc r records key.now group.now closes.now × Judgeable doc }
+    ensures { (doc : Doc) (r : Rule) → ClosingOf doc r records.entry key.now group.now closes.now → Judgeable doc → KnownOnly doc r → low ≡ r.low → high ≡ r.high → Reaches doc r result }
 {
-    let links = places::thread(key, group, closes, vkind.len());
+    let links = places::thread(key, group, closes, records.vkind.len());
     let last = links.last;
     let prior = links.lower;
-    let past = places::lasts(key, group, &last, vkind.len());
-    let start = sweep::sought(
-        levels::ENDS,
-        vkind,
-        value,
-        begin,
-        end,
-        closes,
-        &prior,
-        &past,
-        begin,
-        low,
-        high,
-    );
-    sweep::settle(
-        vkind, value, begin, end, key, closes, &prior, &start, low, high,
-    )
+    let past = places::lasts(key, group, &last, records.vkind.len());
+    let whole = Course {
+        order: closes,
+        prior: &prior,
+        start: &past,
+    };
+    let start = sweep::sought(levels::ENDS, records, whole, records.begin, low, high);
+    let course = Course {
+        order: closes,
+        prior: &prior,
+        start: &start,
+    };
+    sweep::settle(records, key, course, low, high)
 }
 
 // The same: no search is made where no two numbers with a row are a wrong step apart. Cost: two passes over the records, else one and that of the searches.
 pub fn reaches_swept(
-    vkind: &[u8],
-    value: &[i32],
-    begin: &[u16],
-    end: &[u16],
+    records: Records,
     key: &[u16],
     group: &[u16],
     closes: &[u16],
     low: i32,
     high: i32,
 ) -> [u16; LIMIT]
-    requires { (doc : Doc) × (r : Rule) × Closing doc r vkind.now value.now begin.now end.now key.now group.now closes.now × Judgeable doc }
-    ensures { (doc : Doc) (r : Rule) → Closing doc r vkind.now value.now begin.now end.now key.now group.now closes.now → Judgeable doc → KnownOnly doc r → low ≡ r.low → high ≡ r.high → Reaches doc r result }
+    requires { (doc : Doc) × (r : Rule) × ClosingOf doc r records key.now group.now closes.now × Judgeable doc }
+    ensures { (doc : Doc) (r : Rule) → ClosingOf doc r records.entry key.now group.now closes.now → Judgeable doc → KnownOnly doc r → low ≡ r.low → high ≡ r.high → Reaches doc r result }
 {
-    if spans::calm(key, vkind, value, low, high) {
-        return places::unmoved(key, vkind);
+    if spans::calm(key, records.vkind, records.value, low, high) {
+        return places::unmoved(key, records.vkind);
     }
-    reaches_sought(vkind, value, begin, end, key, group, closes, low, high)
-}
-
-// The mark of a reach: 1 above 0. Cost: one test.
-fn reaching(x: u16) -> u8
-    ensures { eqb result 1 ≡ ltb 0 x }
-{
-    if 0 < x {
-        return 1;
-    }
-    0
+    reaches_sought(records, key, group, closes, low, high)
 }
 
 // A mark on each of n records that can offend at all. Cost: one pass over the records.
@@ -103,10 +83,8 @@ pub fn mark_reaching(reach: &[u16], n: usize) -> [u8; LIMIT]
     ensures { Marks (λ f. ltb 0 (get_or reach.now f 0)) n result }
 {
     let mut marks = [0u8; LIMIT];
-    let mut i = 0;
-    while i < n {
-        marks[i] = reaching(reach[i]);
-        i += 1;
+    for i in 0..n {
+        marks[i] = u8::from(0 < reach[i]);
     }
     marks
 }
@@ -120,6 +98,7 @@ fn offends_in(begin: &[u16], end: &[u16], reach: &[u16], from: usize, to: usize,
 }
 
 // The lowest offender of the window that begins on day `from` and ends before day `to`. Cost: a look for each field version that can offend.
+// Its parameters are no `Trail` and `Stretch` of crate `day`: it knows no rows and no representatives, and `day` is none of the crates below.
 pub fn stepped_in<'a>(
     start: usize,
     next: &'a [u16],
@@ -128,17 +107,18 @@ pub fn stepped_in<'a>(
     reach: &'a [u16],
     from: usize,
     to: usize,
-) -> Found
+) -> Option<usize>
     requires rooms { (length begin.now ≤ length end.now) × (length begin.now ≤ length reach.now) }
     requires way { Skips (λ f. ltb 0 (get_or reach.now f 0)) (length begin.now) start next.now }
     ensures { (doc : Doc) (q r : Rule) (w : Window) → Periods doc begin.now end.now → Reaches doc r reach.now → Judgeable doc → is_sequenced r ≡ false → r.kind ≡ 5 → w.from ≡ from → w.to ≡ to → from ≤ 36524 → result ≡ first (offends_in doc (meets doc w) w q r) 0 doc.size }
 {
+    // a while: it follows links
     let mut f = start;
     while f < begin.len() {
         if offends_in(begin, end, reach, from, to, f) {
-            return Found::At(f);
+            return Some(f);
         }
         f = index(next[f]);
     }
-    Found::Nothing
+    None
 }

@@ -28,10 +28,8 @@ fn class_places(key: &[u16], group: &[u16], order: &[u16], n: usize) -> [u16; LI
     ensures { (length result ≡ limit) × ((j : ℕ) → j < length order.now → get_or result j 0 ≡ class_at group.now n (get_or key.now (get_or order.now j 0) 0)) }
 {
     let mut out = [0u16; LIMIT];
-    let mut j = 0;
-    while j < order.len() {
-        out[j] = class_of_key(key, group, n, index(order[j]));
-        j += 1;
+    for (j, p) in order.iter().enumerate() {
+        out[j] = class_of_key(key, group, n, index(*p));
     }
     out
 }
@@ -63,10 +61,8 @@ pub fn lasts(key: &[u16], group: &[u16], last: &[u16], n: usize) -> [u16; LIMIT]
     ensures { (length result ≡ limit) × ((f : ℕ) → f < n → get_or result f 0 ≡ get_or last.now (class_at group.now n (get_or key.now f 0)) 0) }
 {
     let mut out = [0u16; LIMIT];
-    let mut f = 0;
-    while f < n {
+    for f in 0..n {
         out[f] = last_of(last, class_of_key(key, group, n, f));
-        f += 1;
     }
     out
 }
@@ -83,16 +79,6 @@ fn end_at(end: &[u16], order: &[u16], place: u16) -> u16
     end[p]
 }
 
-// The greater of two places. Cost: one test.
-fn larger(a: u16, b: u16) -> u16
-    ensures { result ≡ greater a b }
-{
-    if a < b {
-        return b;
-    }
-    a
-}
-
 // For each of n records the end at the later of two places. Cost: one pass over the records.
 pub fn later_ends(
     end: &[u16],
@@ -105,10 +91,9 @@ pub fn later_ends(
     ensures { (length result ≡ limit) × ((f : ℕ) → f < n → get_or result f 0 ≡ end_at end.now order.now (greater (get_or above.now f 0) (get_or beneath.now f 0))) }
 {
     let mut out = [0u16; LIMIT];
-    let mut f = 0;
-    while f < n {
-        out[f] = end_at(end, order, larger(above[f], beneath[f]));
-        f += 1;
+    for f in 0..n {
+        let later = above[f].max(beneath[f]);
+        out[f] = end_at(end, order, later);
     }
     out
 }
@@ -135,10 +120,8 @@ pub fn answers(key: &[u16], vkind: &[u8], until: &[u16], parting: &[u16]) -> [u1
     ensures { (length result ≡ limit) × ((f : ℕ) → f < length vkind.now → get_or result f 0 ≡ settled_as (get_or key.now f 0) (length vkind.now) (get_or vkind.now f 0) (get_or until.now f 0) (get_or parting.now f 0)) }
 {
     let mut out = [0u16; LIMIT];
-    let mut f = 0;
-    while f < vkind.len() {
+    for f in 0..vkind.len() {
         out[f] = settled(key[f], vkind.len(), vkind[f], until[f], parting[f]);
-        f += 1;
     }
     out
 }
@@ -149,10 +132,8 @@ pub fn unmoved(key: &[u16], vkind: &[u8]) -> [u16; LIMIT]
     ensures { (length result ≡ limit) × ((f : ℕ) → f < length vkind.now → get_or result f 0 ≡ settled_as (get_or key.now f 0) (length vkind.now) (get_or vkind.now f 0) 0 0) }
 {
     let mut out = [0u16; LIMIT];
-    let mut f = 0;
-    while f < vkind.len() {
+    for f in 0..vkind.len() {
         out[f] = settled(key[f], vkind.len(), vkind[f], 0, 0);
-        f += 1;
     }
     out
 }

@@ -13,27 +13,6 @@ struct Span {
     most: u64,
 }
 
-// The lesser of two numbers. Cost: one test.
-fn lesser(a: u64, b: u64) -> u64
-    ensures { (result ≤ a) × (result ≤ b) }
-{
-    if a < b {
-        return a;
-    }
-    b
-}
-
-// The greater of two numbers of 32 bits. Cost: one test.
-fn greater(a: u64, b: u64) -> u64
-    requires { b < 4294967296 }
-    ensures { (a ≤ result) × (b ≤ result) × (a < 4294967296 → result < 4294967296) }
-{
-    if a < b {
-        return b;
-    }
-    a
-}
-
 // The span widened to the value of a record with this key, of n, where it is a number with a row. Cost: four tests.
 fn widened(span: Span, key: u16, n: usize, vkind: u8, value: i32) -> Span
     ensures { Widened span.least span.most key n vkind value result.least result.most }
@@ -46,8 +25,8 @@ fn widened(span: Span, key: u16, n: usize, vkind: u8, value: i32) -> Span
     }
     let x = raised(value);
     Span {
-        least: lesser(span.least, x),
-        most: greater(span.most, x),
+        least: span.least.min(x),
+        most: span.most.max(x),
     }
 }
 
@@ -60,10 +39,8 @@ fn span_of(key: &[u16], vkind: &[u8], value: &[i32]) -> Span
         least: 4294967295,
         most: 0,
     };
-    let mut f = 0;
-    while f < vkind.len() {
+    for f in 0..vkind.len() {
         span = widened(span, key[f], vkind.len(), vkind[f], value[f]);
-        f += 1;
     }
     span
 }

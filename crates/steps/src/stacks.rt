@@ -41,6 +41,7 @@ pub fn latest_below(level: &[u64], below: &[u16], leap: &[u16], start: u16, boun
     requires { (n : ℕ) × (start ≤ n) × (n ≤ length level.now) × Leads n below.now × Leads n leap.now }
     ensures { (result ≤ start) × ((member : ℕ → Bool) (n : ℕ) → start ≤ n → Stacked member (level_at level.now) n below.now leap.now → (0 < start → member (start - 1) ≡ true) → Latest member (level_at level.now) bound start result) }
 {
+    // a while: it follows links
     let mut at = start;
     while 0 < at {
         let j = index(at) - 1;
@@ -63,17 +64,6 @@ fn hop(column: &[u16], place: u16) -> u16
     column[index(place) - 1]
 }
 
-// The steps that two leaps and one step spare, or the most that can be told. Cost: two tests.
-fn spared(a: u16, b: u16) -> u16 {
-    if 30000 <= a {
-        return 65535;
-    }
-    if 30000 <= b {
-        return 65535;
-    }
-    a + b + 1
-}
-
 // The leap from a place whose step leads to b: as far as two leaps on from b, where those two spare as much as each other, else to b.
 // So from each place the leaps that follow it spare more and more. Cost: four looks.
 fn leap_from(leap: &[u16], span: &[u16], b: u16) -> Leap
@@ -88,11 +78,11 @@ fn leap_from(leap: &[u16], span: &[u16], b: u16) -> Leap
     }
     Leap {
         to: hop(leap, first),
-        span: spared(a, c),
+        span: a.saturating_add(c).saturating_add(1),
     }
 }
 
-// The member before place j on its chain, which is told where `prior` leads to a place before j; else none. Cost: one test.
+// The member before place j on its chain, which is told where `prior` leads to a place before j; else none: so no minimum. Cost: one test.
 fn earlier(prior: u16, j: usize) -> u16
     ensures { (result ≤ j) × (prior ≤ j → result ≡ prior) }
 {
@@ -110,14 +100,12 @@ pub fn stack(level: &[u64], prior: &[u16], n: usize) -> Stacks
     let mut below = [0u16; LIMIT];
     let mut leap = [0u16; LIMIT];
     let mut span = [0u16; LIMIT];
-    let mut j = 0;
-    while j < n {
+    for j in 0..n {
         let b = latest_below(level, &below, &leap, earlier(prior[j], j), level[j]);
         let far = leap_from(&leap, &span, b);
         below[j] = b;
         leap[j] = far.to;
         span[j] = far.span;
-        j += 1;
     }
     Stacks { below, leap }
 }

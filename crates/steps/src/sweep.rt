@@ -8,7 +8,15 @@ ghost use Rattle.steps.specs.Places.{Settled};
 use crate::levels::{BEGINS, TURNED, VALUES, bound_of, levels};
 use crate::places::{answers, later_ends};
 use crate::stacks::{latest_below, stack};
-use columns::LIMIT;
+use columns::{LIMIT, Records};
+
+// An order of the records, the chains along it, and for each record the place, counted from one, from which it is sought.
+#[derive(Clone, Copy)]
+pub struct Course<'a> {
+    pub order: &'a [u16],
+    pub prior: &'a [u16],
+    pub start: &'a [u16],
+}
 
 // For each record the last place before its start whose level is below its bound. Cost: a search for each record.
 fn ask(
@@ -26,11 +34,9 @@ fn ask(
     ensures { Asked which value.now start.now days.now low high level.now below.now leap.now result }
 {
     let mut out = [0u16; LIMIT];
-    let mut f = 0;
-    while f < value.len() {
+    for f in 0..value.len() {
         let bound = bound_of(which, value[f], low, high, days[f]);
         out[f] = latest_below(level, below, leap, start[f], bound);
-        f += 1;
     }
     out
 }
@@ -38,53 +44,47 @@ fn ask(
 // The same, with the levels and the stacks laid out first. Cost: two passes over the order and one over the records, with a search at each.
 pub fn sought(
     which: u8,
-    vkind: &[u8],
-    value: &[i32],
-    begin: &[u16],
-    end: &[u16],
-    order: &[u16],
-    prior: &[u16],
-    start: &[u16],
+    records: Records,
+    course: Course,
     days: &[u16],
     low: i32,
     high: i32,
 ) -> [u16; LIMIT]
-    requires { Sweepable vkind.now value.now begin.now end.now order.now prior.now start.now days.now }
-    ensures { Sought which vkind.now value.now begin.now end.now order.now prior.now start.now days.now low high result }
+    requires { Sweepable records.vkind.now records.value.now records.begin.now records.end.now course.order.now course.prior.now course.start.now days.now }
+    ensures { Sought which records.entry.vkind.now records.entry.value.now records.entry.begin.now records.entry.end.now course.entry.order.now course.entry.prior.now course.entry.start.now days.now low high result }
 {
-    let level = levels(which, vkind, value, begin, end, order);
-    let stacks = stack(&level, prior, order.len());
+    let level = levels(which, records, course.order);
+    let stacks = stack(&level, course.prior, course.order.len());
     let below = stacks.below;
     let leap = stacks.leap;
-    ask(which, value, start, days, low, high, &level, &below, &leap)
+    ask(
+        which,
+        records.value,
+        course.start,
+        days,
+        low,
+        high,
+        &level,
+        &below,
+        &leap,
+    )
 }
 
 // The reach of each record: of the last places before its start from which the step to it is too high or too low, the later one; its end, unless
 // one of the item number lies from there to the record. Cost: three searches for each record, and two passes over the records.
-pub fn settle(
-    vkind: &[u8],
-    value: &[i32],
-    begin: &[u16],
-    end: &[u16],
-    key: &[u16],
-    order: &[u16],
-    prior: &[u16],
-    start: &[u16],
-    low: i32,
-    high: i32,
-) -> [u16; LIMIT]
-    requires { Sweepable vkind.now value.now begin.now end.now order.now prior.now start.now begin.now × (length value.now ≤ length key.now) }
-    ensures { Settled vkind.now value.now begin.now end.now key.now order.now prior.now start.now low high result }
+pub fn settle(records: Records, key: &[u16], course: Course, low: i32, high: i32) -> [u16; LIMIT]
+    requires { Sweepable records.vkind.now records.value.now records.begin.now records.end.now course.order.now course.prior.now course.start.now records.begin.now × (length records.value.now ≤ length key.now) }
+    ensures { Settled records.entry.vkind.now records.entry.value.now records.entry.begin.now records.entry.end.now key.now course.entry.order.now course.entry.prior.now course.entry.start.now low high result }
 {
-    let above = sought(
-        VALUES, vkind, value, begin, end, order, prior, start, begin, low, high,
+    let above = sought(VALUES, records, course, records.begin, low, high);
+    let beneath = sought(TURNED, records, course, records.begin, low, high);
+    let until = later_ends(
+        records.end,
+        course.order,
+        &above,
+        &beneath,
+        records.value.len(),
     );
-    let beneath = sought(
-        TURNED, vkind, value, begin, end, order, prior, start, begin, low, high,
-    );
-    let until = later_ends(end, order, &above, &beneath, value.len());
-    let parting = sought(
-        BEGINS, vkind, value, begin, end, order, prior, start, &until, low, high,
-    );
-    answers(key, vkind, &until, &parting)
+    let parting = sought(BEGINS, records, course, &until, low, high);
+    answers(key, records.vkind, &until, &parting)
 }

@@ -4,11 +4,11 @@
 
 ghost use Rattle.std.specs.Prelude.{◌≡◌, ℕ, ◌≤◌};
 ghost use Rattle.meaning.specs.Document.{Doc};
-ghost use Rattle.columns.specs.Lent.{Values, Periods, Numbers};
+ghost use Rattle.columns.specs.Lent.{ValuesOf, PeriodsOf, NumbersOf};
 ghost use Rattle.columns.specs.Judgeable.{Judgeable};
 ghost use Rattle.survey.specs.Surveyed.{Surveyed};
 
-use columns::LIMIT;
+use columns::{LIMIT, Records};
 
 // The representatives and the classes; how many versions there are, and their numbers by begin and by end.
 #[derive(Drop)]
@@ -21,22 +21,14 @@ pub struct Survey {
 }
 
 // The survey of a document. Cost: that of `values::represent`, of `groups::group`, and twice that of `orders::versions_by`.
-pub fn survey_columns(
-    kind: &[u8],
-    vkind: &[u8],
-    parent: &[u16],
-    begin: &[u16],
-    end: &[u16],
-    value: &[i32],
-    item: &[u32],
-) -> Survey
-    requires { (doc : Doc) × Values doc kind.now vkind.now value.now × Periods doc begin.now end.now × Numbers doc kind.now parent.now item.now × Judgeable doc }
-    ensures { (doc : Doc) → Values doc kind.now vkind.now value.now → Periods doc begin.now end.now → Numbers doc kind.now parent.now item.now → Surveyed doc begin.now end.now result.rep result.group result.opens result.closes result.many }
+pub fn survey_columns(records: Records<'_>) -> Survey
+    requires { (doc : Doc) × ValuesOf doc records × PeriodsOf doc records × NumbersOf doc records × Judgeable doc }
+    ensures { (doc : Doc) → ValuesOf doc records.entry → PeriodsOf doc records.entry → NumbersOf doc records.entry → Surveyed doc records.entry.begin.now records.entry.end.now result.rep result.group result.opens result.closes result.many }
 {
-    let rep = values::represent(kind, vkind, value);
-    let group = groups::group(kind, parent, item);
-    let begins = orders::versions_by(kind, begin);
-    let ends = orders::versions_by(kind, end);
+    let rep = values::represent(records);
+    let group = groups::group(records);
+    let begins = orders::versions_by(records.kind, records.begin);
+    let ends = orders::versions_by(records.kind, records.end);
     let opens = begins.order;
     let closes = ends.order;
     let many = begins.many;

@@ -11,7 +11,7 @@ use lib.Seq.{get_or-set_same, get_or-set_other}
 use Rattle.meaning.proofs.Basics.{went}
 use Rattle.meaning.proofs.Says.{says}
 use Rattle.columns.specs.Chains.{Namesake, numbered}
-use Rattle.twins.specs.Classed.{OwnPlaces, OneNumber, Classed, Alone}
+use Rattle.twins.specs.Classed.{OneNumber, Classed, Alone}
 
 -- of the numbers below i + 1: i itself, or one below it
 pub last_or : (a i : ℕ) → a < i + 1 → (a ≡ i) ⊎ (a < i)
@@ -22,16 +22,6 @@ items_below : (kinds : List ℕ) (i : ℕ) → (get_or kinds i 0 ≡ 1 → ⊥) 
 items_below kinds i n a l k = ⊎_elim (λ (e : a ≡ i). absurd (n (ap (λ x. get_or kinds x 0) (sym e) ∙ k))) (λ b. b) (last_or a i l)
 
 module _ (kinds names items : List ℕ) where
-  pub classed_none : (classes : List ℕ) → OwnPlaces classes (length kinds) → Classed kinds names items classes 0
-  classed_none classes s =
-      record {
-        few = omega arith;
-        room = s.room;
-        low = λ i h. omega (arith, s.at i h);
-        class = λ i j h. absurd (omega arith);
-        name = λ i j h. absurd (omega arith);
-      }
-
   module _ (classes : List ℕ) (i : ℕ) (s : Classed kinds names items classes i) (h : i < length kinds) where
     -- record i is no item
     pub classed_skip : (get_or kinds i 0 ≡ 1 → ⊥) → Classed kinds names items classes (i + 1)
@@ -101,9 +91,6 @@ module _ (kinds names items : List ℕ) where
 
 -- how the search for two of one number goes on
 module _ (kinds items : List ℕ) where
-  pub alone-none : Alone kinds items 0
-  alone-none = record { one = λ i j h. absurd (omega arith) }
-
   module _ (i : ℕ) (s : Alone kinds items i) where
     pub alone-skip : (get_or kinds i 0 ≡ 1 → ⊥) → Alone kinds items (i + 1)
     alone-skip n =

@@ -3,7 +3,6 @@ use mathlib.Core.Path.{◌≡◌, sym, ◌∙◌, ap}
 use mathlib.Core.List.{List, []}
 use Prim.Native.Nat.{ℕ, ◌≤◌, ◌<◌}
 use native.Mathlib.Omega.{arith}
-use lib.Dec.{eqb}
 use lib.ListN.{length, get_or}
 use Rattle.meaning.specs.Block.{limit}
 use Rattle.meaning.specs.Document.{Doc, columns, version_of}
@@ -11,7 +10,6 @@ use Rattle.meaning.specs.Nodes.{share_day, overlap, clash, clashes}
 use Rattle.meaning.proofs.Says.{says}
 use Rattle.meaning.proofs.Places.{counted}
 use Rattle.columns.specs.Chains.{numbered}
-use Rattle.orders.specs.Order.{InOrder}
 use Rattle.twins.specs.Classed.{OwnPlaces, OneNumber, Classed, Alone}
 use Rattle.twins.specs.Apart.{Held, Lists, Apart}
 use Rattle.twins.specs.Clear.{Clear}
@@ -67,14 +65,4 @@ module _ (kinds : List ℕ) where
         inside = λ k h. rw (s.at k h) h;
         place = λ v. v;
         all = λ v k. (here v k, s.at v (here v k));
-      }
-
-  -- and so are the versions in the order of a column
-  pub lists_order : {column order : List ℕ} {many : ℕ} → InOrder (λ x. eqb (get_or kinds x 0) 2) column order many → Lists kinds order many
-  lists_order o =
-      record {
-        room = o.room;
-        inside = λ k h. here _ (simp says at (o.once k h).0);
-        place = o.place;
-        all = λ v k. o.all v (simp says k);
       }

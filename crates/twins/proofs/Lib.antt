@@ -1,5 +1,4 @@
 -- The laws behind the passes over items of one number.
 pub mod Classing
-pub mod Following
 pub mod Sweeping
 pub mod Clearing

@@ -11,7 +11,7 @@ use lib.ListN.{length, get_or, set}
 use lib.Seq.{get_or-set_same, get_or-set_other}
 use Rattle.meaning.proofs.Basics.{went, clear, le_or_lt}
 use Rattle.meaning.proofs.Says.{says}
-use Rattle.twins.specs.Apart.{under, class_of, Held, Lists, Follows, Apart}
+use Rattle.twins.specs.Apart.{under, class_of, Lists, Follows, Apart}
 use Rattle.twins.proofs.Classing.{last_or}
 
 module _ (T : ℕ → Bool) (C A B : ℕ → ℕ) where
@@ -104,12 +104,3 @@ module _ (kinds parents begins ends classes order : List ℕ) (m : ℕ) where
                 (λ q. omega (arith, ordered (l.place v) (l.place u) q x.0 v u y.1 x.1 tv tu (sym e)))
                 (le_or_lt (l.place u) (l.place v));
           }
-
--- fewer items are held, and none lie apart
-module _ (kinds parents begins ends classes : List ℕ) where
-  pub held-fewer : {k m : ℕ} → Held kinds parents begins ends classes m → k ≤ m → Held kinds parents begins ends classes k
-  held-fewer h l =
-      record { parent = h.parent; begin = h.begin; end = h.end; few = omega (arith, h.few); class_room = h.class_room; low = h.low }
-
-  pub apart_none : Apart kinds parents begins ends classes 0
-  apart_none = record { apart = λ u v y. let w = simp says at y in absurd (omega (arith, w.1)) }

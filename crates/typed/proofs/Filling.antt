@@ -11,45 +11,39 @@ use lib.Dec.{eqb}
 use lib.Seq.{drop-cons, set_at}
 use Rattle.meaning.specs.declared.Node.{Node}
 use Rattle.meaning.specs.Lent.{Lent, lent}
-use Rattle.typed.specs.declared.scan.Scan.{Scan}
-use Rattle.typed.specs.declared.scan.Scan.TheVariants as N
-use Rattle.typed.specs.declared.scan.SignedScan.{SignedScan}
-use Rattle.typed.specs.declared.scan.SignedScan.TheVariants as S
-use Rattle.typed.specs.declared.Line.{Line}
-use Rattle.typed.specs.declared.Line.TheVariants as L
-use Rattle.typed.specs.declared.Typed.{Typed}
-use Rattle.typed.specs.declared.Typed.TheVariants.{Bad}
+use Rattle.std.specs.Prelude.{Option, Some, None, Result, Err}
+use Rattle.typed.specs.declared.BadLine.{BadLine}
 use Rattle.typed.specs.Numeral.{number_at, value_at}
 use Rattle.typed.specs.Listing.{on_number, on_value, line_at, Lines, records, bad, before, on_line, lines_at, told}
 use Rattle.typed.specs.Entered.{entered, Entered, Room, LinesRead}
 use Rattle.typed.proofs.Scans.{value-fits}
 
 -- the value of a line's record
-abbrev value_of : Line → ℤ
-value_of (L.Record node next) = node.value
-value_of L.Bad = pos 0
+abbrev value_of : Option (Node × ℕ) → ℤ
+value_of (Some line) = line.0.value
+value_of None = pos 0
 
 -- its spare bytes
-abbrev spare_of : Line → ℕ
-spare_of (L.Record node next) = node.spare
-spare_of L.Bad = 0
+abbrev spare_of : Option (Node × ℕ) → ℕ
+spare_of (Some line) = line.0.spare
+spare_of None = 0
 
 -- a line in the form has each of its numbers
 module _ {node : Node} {next : ℕ} {P : Type 0} where
-  took : (s : Scan) {f : ℕ → ℕ → Line} → ((x k : ℕ) → f x k ≡ L.Record node next → P) → on_number s f ≡ L.Record node next → P
-  took (N.Number x k) g e = g x k e
-  took N.Bad g e = let wrong : ◌≡◌ {A = ℕ} 0 1 = cc in absurd (omega arith)
+  took : (s : Option (ℕ × ℕ)) {f : ℕ → ℕ → Option (Node × ℕ)} → ((x k : ℕ) → f x k ≡ Some (node, next) → P) → on_number s f ≡ Some (node, next) → P
+  took (Some (x, k)) g e = g x k e
+  took None g e = let wrong : ◌≡◌ {A = ℕ} 0 1 = cc in absurd (omega arith)
 
-  took_value : (s : SignedScan) {f : ℤ → ℕ → Line} → ((z : ℤ) (k : ℕ) → s ≡ S.Value z k → f z k ≡ L.Record node next → P) → on_value s f ≡ L.Record node next → P
-  took_value (S.Value z k) g e = g z k refl e
-  took_value S.Bad g e = let wrong : ◌≡◌ {A = ℕ} 0 1 = cc in absurd (omega arith)
+  took_value : (s : Option (ℤ × ℕ)) {f : ℤ → ℕ → Option (Node × ℕ)} → ((z : ℤ) (k : ℕ) → s ≡ Some (z, k) → f z k ≡ Some (node, next) → P) → on_value s f ≡ Some (node, next) → P
+  took_value (Some (z, k)) g e = g z k refl e
+  took_value None g e = let wrong : ◌≡◌ {A = ℕ} 0 1 = cc in absurd (omega arith)
 
 -- its value is an i32, and its spare bytes are 0
 pub record Sound (node : Node) : Type 0 where
   pub fits : mag node.value < 2147483648
   pub spare : node.spare ≡ 0
 
-pub line-sound : (text : List ℕ) (at : ℕ) {node : Node} {next : ℕ} → line_at text at ≡ L.Record node next → Sound node
+pub line-sound : (text : List ℕ) (at : ℕ) {node : Node} {next : ℕ} → line_at text at ≡ Some (node, next) → Sound node
 unfolding line_at
 line-sound text at =
     took (number_at text at 255 32) (λ _ a.
@@ -162,7 +156,7 @@ module _ {text : List ℕ} {from n : ℕ} {old new : Lent} {at i : ℕ} (s : Fil
       rw line (rw left at s.rest)
 
   -- a line with a record; the value is stored as an i32 that is equal to the record's
-  pub filling_more : i < n → Room n old → {node : Node} {next : ℕ} → line_at text at ≡ L.Record node next → {z : ℤ} → z ≡ node.value
+  pub filling_more : i < n → Room n old → {node : Node} {next : ℕ} → line_at text at ≡ Some (node, next) → {z : ℤ} → z ≡ node.value
       → Filling text from n old
       (lent (set new.kind i node.kind) (set new.vkind i node.vkind) (set new.name i node.name) (set new.parent i node.parent) (set new.begin i node.begin) (set new.end i node.end) (set new.value i z) (set new.item i node.item))
       next (i + 1)
@@ -198,13 +192,13 @@ module _ {text : List ℕ} {from n : ℕ} {old new : Lent} {at i : ℕ} (s : Fil
       }
 
   -- a line that is not in the form
-  pub filling_bad : i < n → line_at text at ≡ L.Bad → LinesRead text from n old (Bad (i + 2)) new
+  pub filling_bad : i < n → line_at text at ≡ None → LinesRead text from n old (Err (record { line = i + 2 })) new
   filling_bad here e =
       let all : bad (i + 2) ≡ lines_at text from 2 n = rw e at (next-line here) in
       record { answer = rw (← all) refl; columns = λ ns g. let wrong : ◌≡◌ {A = ℕ} 0 1 = cc in absurd (omega arith) }
 
   -- no line is left
-  pub filling_all : n ≤ i → {r : Typed} → r ≡ (told n (lines_at text at (n + 2) 0)).answer → LinesRead text from n old r new
+  pub filling_all : n ≤ i → {r : Result ℕ BadLine} → r ≡ (told n (lines_at text at (n + 2) 0)).answer → LinesRead text from n old r new
   unfolding lines_at
   filling_all past {r} e =
       let same : i ≡ n = omega (arith, s.some) in

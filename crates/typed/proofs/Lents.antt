@@ -9,16 +9,12 @@ use lib.Dec.{leb, eqb}
 use lib.IntN.{pos}
 use lib.ListN.{length, get_or, drop, length-map, get_or-append, get_or-map}
 use lib.Seq.{ext_get_or}
+use Rattle.std.specs.Prelude.{Option, Some, None, Ok}
 use Rattle.meaning.specs.declared.Node.{Node}
 use Rattle.meaning.specs.Block.{limit}
 use Rattle.meaning.specs.Lent.{Lent, node_at, nodes_lent}
 use Rattle.meaning.proofs.Basics.{and_else}
 use Rattle.meaning.proofs.Walks.{length_listed, get_d_listed}
-use Rattle.typed.specs.declared.scan.Scan.{Scan}
-use Rattle.typed.specs.declared.scan.Scan.TheVariants as N
-use Rattle.typed.specs.declared.Line.{Line}
-use Rattle.typed.specs.declared.Line.TheVariants as L
-use Rattle.typed.specs.declared.Typed.TheVariants.{Records}
 use Rattle.typed.specs.Numeral.{top, number_at}
 use Rattle.typed.specs.Listing.{line_at, Lines, records, bad, before, on_line, lines_at, told, on_count, text_of}
 use Rattle.typed.specs.Entered.{entered, Entered}
@@ -59,31 +55,31 @@ lines-whole text (suc n) at k {ns} e = line (line_at text at) refl e (λ next ms
     rest node (records ms) s f w = let same : node ∷ ms ≡ ns = cc in rw (← same) (whole-more s (w ms refl))
     rest node (bad j) s f w = let wrong : ◌≡◌ {A = ℕ} 0 1 = cc in absurd (omega arith)
 
-    line : (l : Line) → line_at text at ≡ l → on_line l k (λ node next. before node (lines_at text next (suc k) n)) ≡ records ns
+    line : (l : Option (Node × ℕ)) → line_at text at ≡ l → on_line l k (λ node next. before node (lines_at text next (suc k) n)) ≡ records ns
         → ((next : ℕ) (ms : List Node) → lines_at text next (suc k) n ≡ records ms → Whole n ms) → Whole (suc n) ns
-    line (L.Record node next) f g w = rest node (lines_at text next (suc k) n) (line-sound text at f).spare g (w next)
-    line L.Bad f g w = let wrong : ◌≡◌ {A = ℕ} 0 1 = cc in absurd (omega arith)
+    line (Some (node, next)) f g w = rest node (lines_at text next (suc k) n) (line-sound text at f).spare g (w next)
+    line None f g w = let wrong : ◌≡◌ {A = ℕ} 0 1 = cc in absurd (omega arith)
 
 -- as many as the text says, where it says no more than a document can have
-pub text-whole : (text : List ℕ) {n : ℕ} → (text_of text).answer ≡ Records n → n ≤ limit → Whole n (text_of text).listed
+pub text-whole : (text : List ℕ) {n : ℕ} → (text_of text).answer ≡ Ok n → n ≤ limit → Whole n (text_of text).listed
 unfolding text_of
 text-whole text {n} e few = first (number_at text 0 top 10) e
   where
-    lines : (m : ℕ) (l : Lines) → ((ns : List Node) → l ≡ records ns → Whole m ns) → (told m l).answer ≡ Records n → Whole n (told m l).listed
+    lines : (m : ℕ) (l : Lines) → ((ns : List Node) → l ≡ records ns → Whole m ns) → (told m l).answer ≡ Ok n → Whole n (told m l).listed
     lines m (records ns) w f = let same : m ≡ n = cc in rw (← same) (w ns refl)
     lines m (bad k) w f = let wrong : ◌≡◌ {A = ℕ} 0 1 = cc in absurd (omega arith)
 
     none : (m : ℕ) → m ≡ n → leb 1 m && leb m limit ≡ false → n ≡ 0
     none m same t = and_else (leb 1 m) (leb m limit) (λ a. omega (arith, leb-false 1 m a)) (λ b. absurd (omega (arith, leb-false m limit b))) t
 
-    counted : (t : Bool) (m next : ℕ) → leb 1 m && leb m limit ≡ t → (cond t (told m (lines_at text next 2 m)) (record { answer = Records m; listed = [] })).answer ≡ Records n
-        → Whole n (cond t (told m (lines_at text next 2 m)) (record { answer = Records m; listed = [] })).listed
+    counted : (t : Bool) (m next : ℕ) → leb 1 m && leb m limit ≡ t → (cond t (told m (lines_at text next 2 m)) (record { answer = Ok m; listed = [] })).answer ≡ Ok n
+        → Whole n (cond t (told m (lines_at text next 2 m)) (record { answer = Ok m; listed = [] })).listed
     counted true m next t f = lines m (lines_at text next 2 m) (λ ns g. lines-whole text m next 2 g) f
     counted false m next t f = let same : m ≡ n = cc in rw (none m same t) whole-none
 
-    first : (s : Scan) → (on_count text s).answer ≡ Records n → Whole n (on_count text s).listed
-    first (N.Number m next) f = counted (leb 1 m && leb m limit) m next refl f
-    first N.Bad f = let wrong : ◌≡◌ {A = ℕ} 0 1 = cc in absurd (omega arith)
+    first : (s : Option (ℕ × ℕ)) → (on_count text s).answer ≡ Ok n → Whole n (on_count text s).listed
+    first (Some (m, next)) f = counted (leb 1 m && leb m limit) m next refl f
+    first None f = let wrong : ◌≡◌ {A = ℕ} 0 1 = cc in absurd (omega arith)
 
 -- an entry of a column is the field of its record
 entry : {A : Type 0} (field : Node → A) (ns : List Node) (old : List A) {column : List A} → column ≡ entered field ns old → (i : ℕ) → i < length ns

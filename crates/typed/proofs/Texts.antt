@@ -5,12 +5,10 @@ use mathlib.Core.List.{List, []}
 use Prim.Native.Nat.{ℕ, ◌≤◌}
 use native.Mathlib.Omega.{arith}
 use lib.Dec.{leb}
+use Rattle.std.specs.Prelude.{Option, Some, None, Result, Ok, Err}
 use Rattle.meaning.specs.Block.{limit}
 use Rattle.meaning.specs.Lent.{Lent}
-use Rattle.typed.specs.declared.scan.Scan.{Scan}
-use Rattle.typed.specs.declared.scan.Scan.TheVariants as N
-use Rattle.typed.specs.declared.Typed.{Typed}
-use Rattle.typed.specs.declared.Typed.TheVariants.{Records, Bad}
+use Rattle.typed.specs.declared.BadLine.{BadLine}
 use Rattle.typed.specs.declared.TypedRecords.{TypedRecords}
 use Rattle.typed.specs.Numeral.{top, number_at}
 use Rattle.typed.specs.Listing.{Lines, records, bad, lines_at, Text, told, on_count, text_of}
@@ -33,13 +31,13 @@ room-less h r =
 
 module _ (text : List ℕ) where
   -- the first line is not a count
-  pub text-bad : number_at text 0 top 10 ≡ N.Bad → (c : Lent) → TextRead text c (Bad 1) c
+  pub text-bad : number_at text 0 top 10 ≡ None → (c : Lent) → TextRead text c (Err (record { line = 1 })) c
   unfolding text_of
   text-bad e c = record { answer = rw e; columns = λ m w. let wrong : ◌≡◌ {A = ℕ} 0 1 = cc in absurd (omega arith) }
 
-  module _ {n next : ℕ} (e : number_at text 0 top 10 ≡ N.Number n next) where
+  module _ {n next : ℕ} (e : number_at text 0 top 10 ≡ Some (n, next)) where
     -- a count of 0 or above the limit
-    pub text-count : leb 1 n && leb n limit ≡ false → (c : Lent) → TextRead text c (Records n) c
+    pub text-count : leb 1 n && leb n limit ≡ false → (c : Lent) → TextRead text c (Ok n) c
     unfolding text_of
     text-count t c = record { answer = rw (e, t); columns = λ m w. rw (e, t) (entered-nothing c) }
 
@@ -48,41 +46,41 @@ module _ (text : List ℕ) where
     unfolding text_of
     text-told t = rw (e, t)
 
-    pub text-lines : leb 1 n && leb n limit ≡ true → {old new : Lent} {r : Typed} → LinesRead text next n old r new → TextRead text old r new
+    pub text-lines : leb 1 n && leb n limit ≡ true → {old new : Lent} {r : Result ℕ BadLine} → LinesRead text next n old r new → TextRead text old r new
     text-lines t {old} {new} {r} l =
         record {
           answer = l.answer ∙ ap (λ (x : Text). x.answer) (sym (text-told t));
           columns = λ m g. rw (text-told t) (columns (lines_at text next 2 n) refl m g);
         }
       where
-        columns : (s : Lines) → lines_at text next 2 n ≡ s → (m : ℕ) → r ≡ Records m → Entered (told n (lines_at text next 2 n)).listed old new
+        columns : (s : Lines) → lines_at text next 2 n ≡ s → (m : ℕ) → r ≡ Ok m → Entered (told n (lines_at text next 2 n)).listed old new
         columns (records ns) f m g = rw f (l.columns ns f)
         columns (bad k) f m g =
-            let wrong : Records m ≡ Bad k = sym g ∙ l.answer ∙ rw f in
+            let wrong : ◌≡◌ {A = Result ℕ BadLine} (Ok m) (Err (record { line = k })) = sym g ∙ l.answer ∙ rw f in
             let z : ◌≡◌ {A = ℕ} 0 1 = cc in
             absurd (omega arith)
 
 -- where the text is not in the form, it lists no record
-told_none : (n : ℕ) (l : Lines) {k : ℕ} → (told n l).answer ≡ Bad k → (told n l).listed ≡ []
+told_none : (n : ℕ) (l : Lines) {b : BadLine} → (told n l).answer ≡ Err b → (told n l).listed ≡ []
 told_none n (records ns) e = let z : ◌≡◌ {A = ℕ} 0 1 = cc in absurd (omega arith)
 told_none n (bad k) e = refl
 
 -- a whole text
-bad-none : (text : List ℕ) {k : ℕ} → (text_of text).answer ≡ Bad k → (text_of text).listed ≡ []
+bad-none : (text : List ℕ) {b : BadLine} → (text_of text).answer ≡ Err b → (text_of text).listed ≡ []
 unfolding text_of
-bad-none text {k} e = go (number_at text 0 top 10) e
+bad-none text {b} e = go (number_at text 0 top 10) e
   where
-    lines : (t : Bool) (n next : ℕ) → (cond t (told n (lines_at text next 2 n)) (record { answer = Records n; listed = [] })).answer ≡ Bad k
-        → (cond t (told n (lines_at text next 2 n)) (record { answer = Records n; listed = [] })).listed ≡ []
+    lines : (t : Bool) (n next : ℕ) → (cond t (told n (lines_at text next 2 n)) (record { answer = Ok n; listed = [] })).answer ≡ Err b
+        → (cond t (told n (lines_at text next 2 n)) (record { answer = Ok n; listed = [] })).listed ≡ []
     lines true n next f = told_none n (lines_at text next 2 n) f
     lines false n next f = refl
 
-    go : (s : Scan) → (on_count text s).answer ≡ Bad k → (on_count text s).listed ≡ []
-    go (N.Number n next) f = lines (leb 1 n && leb n limit) n next f
-    go N.Bad f = refl
+    go : (s : Option (ℕ × ℕ)) → (on_count text s).answer ≡ Err b → (on_count text s).listed ≡ []
+    go (Some (n, next)) f = lines (leb 1 n && leb n limit) n next f
+    go None f = refl
 
 -- a text that is not in the form leaves columns of zeros
-pub reads-bad : {text : List ℕ} {old new : Lent} {r : Typed} → TextRead text old r new → {k : ℕ} → r ≡ Bad k → {x : TypedRecords} → x.answer ≡ r → columns_of x ≡ blank → Reads text x
-reads-bad {text} t e a b =
+pub reads-bad : {text : List ℕ} {old new : Lent} {r : Result ℕ BadLine} → TextRead text old r new → {b : BadLine} → r ≡ Err b → {x : TypedRecords} → x.answer ≡ r → columns_of x ≡ blank → Reads text x
+reads-bad {text} t e a z =
     let none = bad-none text (sym t.answer ∙ e) in
-    record { answer = a ∙ t.answer; columns = rw (none, b) (entered-nothing blank) }
+    record { answer = a ∙ t.answer; columns = rw (none, z) (entered-nothing blank) }

@@ -8,9 +8,8 @@ use borrow.Author.Tests.{leb-true}
 use lib.Dec.{leb}
 use lib.ListN.{length, take, drop}
 use lib.Seq.{take_at}
-use Rattle.meaning.specs.declared.Reading.{Reading}
-use Rattle.meaning.specs.declared.Reading.TheVariants.{Accepted, Refused}
-use Rattle.meaning.specs.declared.Output.TheVariants.{Written}
+use Rattle.meaning.specs.Reading.{Reading, Accepted}
+use Rattle.std.specs.Prelude.{Ok, Err}
 use Rattle.meaning.specs.Order.{need, and_then}
 use Rattle.meaning.specs.Block.{limit}
 use Rattle.meaning.specs.Document.{of_nodes}
@@ -20,21 +19,21 @@ use Rattle.meaning.specs.Answer.{read_write, output_after, write_answer, write_i
 use Rattle.meaning.proofs.Basics.{and_r}
 
 -- what is refused is not written
-outcome : (y : Reading) (m : ℕ) {b : ℕ} → output_after y m ≡ Written b → (y ≡ Accepted) × (m ≡ b)
+outcome : (y : Reading) (m : ℕ) {b : ℕ} → output_after y m ≡ Ok b → (y ≡ Accepted) × (m ≡ b)
 outcome Accepted m e = (refl, cc)
-outcome (Refused k p) m e = let wrong : ◌≡◌ {A = ℕ} 0 1 = cc in absurd (omega arith)
+outcome (Err why) m e = let wrong : ◌≡◌ {A = ℕ} 0 1 = cc in absurd (omega arith)
 
 -- what is accepted has its first part accepted
 accepted-first : (y z : Reading) → and_then y z ≡ Accepted → y ≡ Accepted
 accepted-first Accepted z e = refl
-accepted-first (Refused k p) z e = e
+accepted-first (Err why) z e = e
 
 -- a test that did not refuse has passed
 needed : (t : Bool) (k p : ℕ) → need t k p ≡ Accepted → t ≡ true
 needed true k p e = refl
 needed false k p e = let wrong : ◌≡◌ {A = ℕ} 0 1 = cc in absurd (omega arith)
 
-module _ (n : ℕ) (c : Lent) (image : List ℕ) {b : ℕ} (e : write_answer n c image ≡ Written b) where
+module _ (n : ℕ) (c : Lent) (image : List ℕ) {b : ℕ} (e : write_answer n c image ≡ Ok b) where
   -- the records were accepted, and the image is so long
   accepted : (read_write n c image ≡ Accepted) × (length (image_of (nodes_lent n c)) ≡ b)
   unfolding write_answer

@@ -1,10 +1,9 @@
 -- What columns hold of a text, entry by entry: one field of every record that it lists, and zeros past them.
-use Rattle.std.specs.Prelude.{◌≡◌, List, ◌++◌, map, pos, ℕ, ◌≤◌, length, drop, replicate}
+use Rattle.std.specs.Prelude.{◌≡◌, List, ◌++◌, map, pos, ℕ, ◌≤◌, length, drop, replicate, Result, Ok}
 use Rattle.meaning.specs.declared.Node.{Node}
 use Rattle.meaning.specs.Block.{limit}
 use Rattle.meaning.specs.Lent.{Lent, lent}
-use Rattle.typed.specs.declared.Typed.{Typed}
-use Rattle.typed.specs.declared.Typed.TheVariants.{Records}
+use Rattle.typed.specs.declared.BadLine.{BadLine}
 use Rattle.typed.specs.declared.TypedRecords.{TypedRecords}
 use Rattle.typed.specs.Listing.{records, lines_at, told, text_of}
 
@@ -35,14 +34,14 @@ pub record Room (n : ℕ) (c : Lent) : Type 0 where
   pub item : n ≤ length c.item
 
 -- the lines of n records from a place on: the answer, and the columns where all are in the form
-pub record LinesRead (text : List ℕ) (from n : ℕ) (old : Lent) (r : Typed) (new : Lent) : Type 0 where
+pub record LinesRead (text : List ℕ) (from n : ℕ) (old : Lent) (r : Result ℕ BadLine) (new : Lent) : Type 0 where
   pub answer : r ≡ (told n (lines_at text from 2 n)).answer
   pub columns : (ns : List Node) → lines_at text from 2 n ≡ records ns → Entered ns old new
 
 -- a whole text: the answer, and the columns where that is a count
-pub record TextRead (text : List ℕ) (old : Lent) (r : Typed) (new : Lent) : Type 0 where
+pub record TextRead (text : List ℕ) (old : Lent) (r : Result ℕ BadLine) (new : Lent) : Type 0 where
   pub answer : r ≡ (text_of text).answer
-  pub columns : (n : ℕ) → r ≡ Records n → Entered (text_of text).listed old new
+  pub columns : (n : ℕ) → r ≡ Ok n → Entered (text_of text).listed old new
 
 -- eight columns with room for the largest document, all zeros
 unfoldable pub blank : Lent

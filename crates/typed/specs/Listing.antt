@@ -1,29 +1,22 @@
 -- A text that lists records: how many there are on the first line, then a line for each, with its eight numbers parted by one space. A line feed ends each line.
-use Rattle.std.specs.Prelude.{◌&&◌, cond, List, [], ◌∷◌, ℕ, zero, suc, eqb, leb, ℤ, length}
+use Rattle.std.specs.Prelude.{◌&&◌, cond, List, [], ◌∷◌, ℕ, zero, suc, eqb, leb, ℤ, length, Option, Some, None, Result, Ok, Err}
 use Rattle.meaning.specs.declared.Node.{Node}
 use Rattle.meaning.specs.Block.{limit}
-use Rattle.typed.specs.declared.scan.Scan.{Scan}
-use Rattle.typed.specs.declared.scan.Scan.TheVariants as N
-use Rattle.typed.specs.declared.scan.SignedScan.{SignedScan}
-use Rattle.typed.specs.declared.scan.SignedScan.TheVariants as S
-use Rattle.typed.specs.declared.Line.{Line}
-use Rattle.typed.specs.declared.Line.TheVariants as L
-use Rattle.typed.specs.declared.Typed.{Typed}
-use Rattle.typed.specs.declared.Typed.TheVariants.{Records, Bad}
+use Rattle.typed.specs.declared.BadLine.{BadLine}
 use Rattle.typed.specs.Numeral.{top, number_at, value_at}
 
 -- the rest of a line after a number, where there is one
-abbrev pub on_number : Scan → (ℕ → ℕ → Line) → Line
-on_number (N.Number x next) rest = rest x next
-on_number N.Bad rest = L.Bad
+abbrev pub on_number : Option (ℕ × ℕ) → (ℕ → ℕ → Option (Node × ℕ)) → Option (Node × ℕ)
+on_number (Some found) rest = rest found.0 found.1
+on_number None rest = None
 
 -- the rest of a line after a value, where there is one
-abbrev pub on_value : SignedScan → (ℤ → ℕ → Line) → Line
-on_value (S.Value x next) rest = rest x next
-on_value S.Bad rest = L.Bad
+abbrev pub on_value : Option (ℤ × ℕ) → (ℤ → ℕ → Option (Node × ℕ)) → Option (Node × ℕ)
+on_value (Some found) rest = rest found.0 found.1
+on_value None rest = None
 
 -- the line of a record from a place on, and the place after it
-unfoldable pub line_at : List ℕ → ℕ → Line
+unfoldable pub line_at : List ℕ → ℕ → Option (Node × ℕ)
 line_at text at =
     on_number (number_at text at 255 32) (λ kind afterKind.
     on_number (number_at text afterKind 255 32) (λ vkind afterVkind.
@@ -33,7 +26,7 @@ line_at text at =
     on_number (number_at text afterBegin 65535 32) (λ end after_end.
     on_value (value_at text after_end 32) (λ value afterValue.
     on_number (number_at text afterValue 4294967295 10) (λ item next.
-    L.Record (record { kind = kind; vkind = vkind; name = name; parent = parent; begin = begin; end = end; value = value; item = item; spare = 0 }) next))))))))
+    Some (record { kind = kind; vkind = vkind; name = name; parent = parent; begin = begin; end = end; value = value; item = item; spare = 0 }, next)))))))))
 
 -- what comes of lines: their records, or the number of the first that is not in the form
 pub data Lines : Type 0 where
@@ -46,9 +39,9 @@ before node (records rest) = records (node ∷ rest)
 before node (bad k) = bad k
 
 -- the lines after line k, where that has a record
-abbrev pub on_line : Line → ℕ → (Node → ℕ → Lines) → Lines
-on_line (L.Record node next) k rest = rest node next
-on_line L.Bad k rest = bad k
+abbrev pub on_line : Option (Node × ℕ) → ℕ → (Node → ℕ → Lines) → Lines
+on_line (Some found) k rest = rest found.0 found.1
+on_line None k rest = bad k
 
 -- n lines of records from a place on, the first of them line k, and then the end of the text
 unfoldable pub lines_at : List ℕ → ℕ → ℕ → ℕ → Lines
@@ -57,18 +50,20 @@ lines_at text at k (suc n) = on_line (line_at text at) k (λ node next. before n
 
 -- what comes of a text: the answer, and the records that it lists
 pub record Text : Type 0 where
-  pub answer : Typed
+  pub answer : Result ℕ BadLine
   pub listed : List Node
 
 -- what comes of the lines of n records
 abbrev pub told : ℕ → Lines → Text
-told n (records ns) = record { answer = Records n; listed = ns }
-told n (bad k) = record { answer = Bad k; listed = [] }
+told n (records ns) = record { answer = Ok n; listed = ns }
+told n (bad k) = record { answer = Err (record { line = k }); listed = [] }
 
 -- what comes of a text after its first line: a count of 0 or above the limit is told, and the lines after it are not looked at
-abbrev pub on_count : List ℕ → Scan → Text
-on_count text (N.Number n next) = cond (leb 1 n && leb n limit) (told n (lines_at text next 2 n)) (record { answer = Records n; listed = [] })
-on_count text N.Bad = record { answer = Bad 1; listed = [] }
+abbrev pub on_count : List ℕ → Option (ℕ × ℕ) → Text
+on_count text (Some found) =
+    let n = found.0 in
+    cond (leb 1 n && leb n limit) (told n (lines_at text found.1 2 n)) (record { answer = Ok n; listed = [] })
+on_count text None = record { answer = Err (record { line = 1 }); listed = [] }
 
 -- WHAT COMES OF A TEXT; a count above `top` is told as `top`
 unfoldable pub text_of : List ℕ → Text

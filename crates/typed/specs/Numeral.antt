@@ -1,11 +1,7 @@
 -- Numbers in decimal out of a text, which is a list of bytes: the digits from a place on, a number with the byte that ends it, and a value with its sign.
-use Rattle.std.specs.Prelude.{Bool, ◌&&◌, ◌||◌, not, cond, List, [], ◌∷◌, ℕ, suc, ◌+◌, ◌-◌, ◌*◌, min, eqb, leb, ltb, pos, negsuc, length, drop}
+use Rattle.std.specs.Prelude.{Bool, ◌&&◌, ◌||◌, not, cond, List, [], ◌∷◌, ℕ, suc, ◌+◌, ◌-◌, ◌*◌, min, eqb, leb, ltb, ℤ, pos, negsuc, length, drop, Option, Some, None}
 use Rattle.meaning.specs.Bytes.{byte}
 use Rattle.typed.specs.declared.scan.Digits.{Digits}
-use Rattle.typed.specs.declared.scan.Scan.{Scan}
-use Rattle.typed.specs.declared.scan.Scan.TheVariants.{Number, Bad}
-use Rattle.typed.specs.declared.scan.SignedScan.{SignedScan}
-use Rattle.typed.specs.declared.scan.SignedScan.TheVariants.{Value, Bad as Unsigned}
 
 -- the codes of 0 to 9
 abbrev pub is_digit : ℕ → Bool
@@ -43,22 +39,22 @@ unfoldable pub is_plain : List ℕ → ℕ → ℕ → Bool
 is_plain text at next = ltb at next && (eqb next (at + 1) || not (stands text at 48))
 
 -- a number of at most `most`, ended by the byte `stop`, and the place after that
-unfoldable pub number_at : List ℕ → ℕ → ℕ → ℕ → Scan
+unfoldable pub number_at : List ℕ → ℕ → ℕ → ℕ → Option (ℕ × ℕ)
 number_at text at most stop =
     let d = digits_at text at in
-    cond (stands text d.next stop && (is_plain text at d.next && leb d.value most)) (Number d.value (d.next + 1)) Bad
+    cond (stands text d.next stop && (is_plain text at d.next && leb d.value most)) (Some (d.value, d.next + 1)) None
 
 -- a number without a minus
-abbrev pub upward : Scan → SignedScan
-upward (Number m next) = Value (pos m) next
-upward Bad = Unsigned
+abbrev pub upward : Option (ℕ × ℕ) → Option (ℤ × ℕ)
+upward (Some found) = Some (pos found.0, found.1)
+upward None = None
 
 -- a number behind a minus: at least 1, and negsuc n is −1 − n
-abbrev pub downward : Scan → SignedScan
-downward (Number m next) = cond (eqb m 0) Unsigned (Value (negsuc (m - 1)) next)
-downward Bad = Unsigned
+abbrev pub downward : Option (ℕ × ℕ) → Option (ℤ × ℕ)
+downward (Some found) = cond (eqb found.0 0) None (Some (negsuc (found.0 - 1), found.1))
+downward None = None
 
 -- a value, from −2147483648 to 2147483647, ended by the byte `stop`
-unfoldable pub value_at : List ℕ → ℕ → ℕ → SignedScan
+unfoldable pub value_at : List ℕ → ℕ → ℕ → Option (ℤ × ℕ)
 value_at text at stop =
     cond (stands text at 45) (downward (number_at text (at + 1) 2147483648 stop)) (upward (number_at text at 2147483647 stop))

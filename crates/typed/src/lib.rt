@@ -9,21 +9,21 @@ ghost use Rattle.typed.specs.Entered.{Room, LinesRead, TextRead, blank, columns_
 
 use columns::LIMIT;
 use meaning::Node;
-use scan::{LINE_FEED, SPACE, Scan, SignedScan, TOP, number_at, value_at};
+use scan::{LINE_FEED, SPACE, TOP, number_at, value_at};
 
 pub mod scan; // scan.rt: numbers in decimal
 
-// What comes of a text: how many records it says it has, or the number of the first line that is not in the form, from 1.
+// That a text of lines is not in the form: the number of the first line that is not.
 #[derive(Clone, Copy)]
-pub enum Typed {
-    Records(usize),
-    Bad(usize),
+pub struct BadLine {
+    pub line: usize,
 }
 
-// What came of a text, and columns with room for the largest document: their first entries hold the records, and all others are 0.
+// What came of a text: how many records it says it has, or its first bad line, counted from 1; and columns with room for the largest document:
+// their first entries hold the records, and all others are 0.
 #[derive(Drop)]
 pub struct TypedRecords {
-    pub answer: Typed,
+    pub answer: Result<usize, BadLine>,
     pub kind: [u8; LIMIT],
     pub vkind: [u8; LIMIT],
     pub name: [u16; LIMIT],
@@ -34,42 +34,19 @@ pub struct TypedRecords {
     pub item: [u32; LIMIT],
 }
 
-// A record, and the place after its line; or that the line is not in the form.
-#[derive(Clone, Copy)]
-pub enum Line {
-    Record(Node, usize),
-    Bad,
-}
-
-// The line of a record, from a place on. At most four looks at each byte.
-fn line_at(text: &[u8], at: usize) -> Line
+// The record of a line from a place on, and the place after the line; or that it is not in the form. At most four looks at each byte.
+fn line_at(text: &[u8], at: usize) -> Option<(Node, usize)>
     ensures { result ≡ line_at text.now at }
 {
-    let Scan::Number(kind, after_kind) = number_at(text, at, 255, SPACE) else {
-        return Line::Bad;
-    };
-    let Scan::Number(vkind, after_vkind) = number_at(text, after_kind, 255, SPACE) else {
-        return Line::Bad;
-    };
-    let Scan::Number(name, after_name) = number_at(text, after_vkind, 65535, SPACE) else {
-        return Line::Bad;
-    };
-    let Scan::Number(parent, after_parent) = number_at(text, after_name, 65535, SPACE) else {
-        return Line::Bad;
-    };
-    let Scan::Number(begin, after_begin) = number_at(text, after_parent, 65535, SPACE) else {
-        return Line::Bad;
-    };
-    let Scan::Number(end, after_end) = number_at(text, after_begin, 65535, SPACE) else {
-        return Line::Bad;
-    };
-    let SignedScan::Value(value, after_value) = value_at(text, after_end, SPACE) else {
-        return Line::Bad;
-    };
-    let Scan::Number(item, next) = number_at(text, after_value, 4294967295, LINE_FEED) else {
-        return Line::Bad;
-    };
-    Line::Record(
+    let (kind, after_kind) = number_at(text, at, 255, SPACE)?;
+    let (vkind, after_vkind) = number_at(text, after_kind, 255, SPACE)?;
+    let (name, after_name) = number_at(text, after_vkind, 65535, SPACE)?;
+    let (parent, after_parent) = number_at(text, after_name, 65535, SPACE)?;
+    let (begin, after_begin) = number_at(text, after_parent, 65535, SPACE)?;
+    let (end, after_end) = number_at(text, after_begin, 65535, SPACE)?;
+    let (value, after_value) = value_at(text, after_end, SPACE)?;
+    let (item, next) = number_at(text, after_value, 4294967295, LINE_FEED)?;
+    Some((
         Node {
             kind: kind as u8,
             vkind: vkind as u8,
@@ -82,18 +59,18 @@ fn line_at(text: &[u8], at: usize) -> Line
             spare: 0,
         },
         next,
-    )
+    ))
 }
 
 // The answer after the last of `count` records: nothing else stands there.
-fn after_last(text: &[u8], at: usize, count: usize) -> Typed
+fn after_last(text: &[u8], at: usize, count: usize) -> Result<usize, BadLine>
     requires { count ≤ limit }
     ensures { result ≡ (told count (lines_at text.now at (count + 2) 0)).answer }
 {
     if at == text.len() {
-        return Typed::Records(count);
+        return Ok(count);
     }
-    Typed::Bad(count + 2)
+    Err(BadLine { line: count + 2 })
 }
 
 // The lines of `count` records from a place on, the first of them line 2, each record's fields in the columns.
@@ -109,15 +86,14 @@ fn read_lines(
     end: &mut [u16],
     value: &mut [i32],
     item: &mut [u32],
-) -> Typed
+) -> Result<usize, BadLine>
     requires { (count ≤ limit) × Room count (lent kind.old vkind.old name.old parent.old begin.old end.old value.old item.old) }
     ensures { LinesRead text.now from count (lent kind.old vkind.old name.old parent.old begin.old end.old value.old item.old) result (lent kind.new vkind.new name.new parent.new begin.new end.new value.new item.new) }
 {
     let mut at = from;
-    let mut i = 0;
-    while i < count {
-        let Line::Record(node, next) = line_at(text, at) else {
-            return Typed::Bad(i + 2);
+    for i in 0..count {
+        let Some((node, next)) = line_at(text, at) else {
+            return Err(BadLine { line: i + 2 });
         };
         kind[i] = node.kind;
         vkind[i] = node.vkind;
@@ -129,7 +105,6 @@ fn read_lines(
         value[i] = v;
         item[i] = node.item;
         at = next;
-        i += 1;
     }
     after_last(text, at, count)
 }
@@ -145,15 +120,15 @@ fn read_into(
     end: &mut [u16],
     value: &mut [i32],
     item: &mut [u32],
-) -> Typed
+) -> Result<usize, BadLine>
     requires { Room limit (lent kind.old vkind.old name.old parent.old begin.old end.old value.old item.old) }
     ensures { TextRead text.now (lent kind.old vkind.old name.old parent.old begin.old end.old value.old item.old) result (lent kind.new vkind.new name.new parent.new begin.new end.new value.new item.new) }
 {
-    let Scan::Number(count, from) = number_at(text, 0, TOP, LINE_FEED) else {
-        return Typed::Bad(1);
+    let Some((count, from)) = number_at(text, 0, TOP, LINE_FEED) else {
+        return Err(BadLine { line: 1 });
     };
     if !((1 <= count) & (count <= LIMIT)) {
-        return Typed::Records(count);
+        return Ok(count);
     }
     read_lines(
         text, from, count, kind, vkind, name, parent, begin, end, value, item,
@@ -161,7 +136,7 @@ fn read_into(
 }
 
 // No record, beside an answer.
-fn nothing(answer: Typed) -> TypedRecords
+fn nothing(answer: Result<usize, BadLine>) -> TypedRecords
     ensures { (result.answer ≡ answer) × (columns_of result ≡ blank) }
 {
     TypedRecords {
@@ -202,7 +177,7 @@ pub fn read_text(text: &[u8]) -> TypedRecords
         &mut value,
         &mut item,
     );
-    let Typed::Records(_) = answer else {
+    let Ok(_) = answer else {
         return nothing(answer);
     };
     TypedRecords {

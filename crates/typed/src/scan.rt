@@ -9,20 +9,6 @@ pub struct Digits {
     pub next: usize,
 }
 
-// A number, and the place after the byte that ends it; or that none of the form asked for stands there.
-#[derive(Clone, Copy)]
-pub enum Scan {
-    Number(usize, usize),
-    Bad,
-}
-
-// The same of a signed number.
-#[derive(Clone, Copy)]
-pub enum SignedScan {
-    Value(i32, usize),
-    Bad,
-}
-
 // Above every number that a column holds.
 pub const TOP: usize = 4294967296;
 
@@ -46,8 +32,8 @@ fn longer(v: usize, x: u8) -> usize
     requires { (v ≤ top) × (48 ≤ x) × (x ≤ 57) }
     ensures { result ≡ min (longer v x) top }
 {
-    let w = 10 * v + ((x - 48) as usize);
-    if w < TOP { w } else { TOP }
+    let w = 10 * v + usize::from(x - 48);
+    w.min(TOP)
 }
 
 // Whether the text has this byte at this place.
@@ -65,15 +51,14 @@ fn digits_at(text: &[u8], at: usize) -> Digits
     ensures { result ≡ digits_at text.now at }
 {
     let mut value = 0;
-    let mut next = at;
-    while next < text.len() {
+    for next in at..text.len() {
         let x = text[next];
         if !is_digit(x) {
             return Digits { value, next };
         }
         value = longer(value, x);
-        next += 1;
     }
+    let next = at.max(text.len());
     Digits { value, next }
 }
 
@@ -85,37 +70,33 @@ fn is_plain(text: &[u8], at: usize, next: usize) -> bool
     (at < next) & ((next == at + 1) | !stands(text, at, ZERO))
 }
 
-// A number of at most `most`, ended by `stop`.
-pub fn number_at(text: &[u8], at: usize, most: usize, stop: u8) -> Scan
+// A number of at most `most`, ended by `stop`, and the place after that; or that none of the form stands there.
+pub fn number_at(text: &[u8], at: usize, most: usize, stop: u8) -> Option<(usize, usize)>
     ensures { result ≡ number_at text.now at most stop }
 {
     let digits = digits_at(text, at);
     let value = digits.value;
     let next = digits.next;
     if !stands(text, next, stop) {
-        return Scan::Bad;
+        return None;
     }
     if is_plain(text, at, next) & (value <= most) {
-        return Scan::Number(value, next + 1);
+        return Some((value, next + 1));
     }
-    Scan::Bad
+    None
 }
 
-// A number that may have a minus, ended by `stop`: what an i32 holds, and no minus before 0.
-pub fn value_at(text: &[u8], at: usize, stop: u8) -> SignedScan
+// The same of a number that may have a minus: what an i32 holds, and no minus before 0.
+pub fn value_at(text: &[u8], at: usize, stop: u8) -> Option<(i32, usize)>
     ensures { result ≡ value_at text.now at stop }
 {
     if !stands(text, at, MINUS) {
-        let Scan::Number(up, next) = number_at(text, at, 2147483647, stop) else {
-            return SignedScan::Bad;
-        };
-        return SignedScan::Value(numbers::signed_of(up as u32), next);
+        let (up, next) = number_at(text, at, 2147483647, stop)?;
+        return Some((numbers::signed_of(up as u32), next));
     }
-    let Scan::Number(down, next) = number_at(text, at + 1, 2147483648, stop) else {
-        return SignedScan::Bad;
-    };
+    let (down, next) = number_at(text, at + 1, 2147483648, stop)?;
     if down == 0 {
-        return SignedScan::Bad;
+        return None;
     }
-    SignedScan::Value(numbers::signed_of((TOP - down) as u32), next)
+    Some((numbers::signed_of((TOP - down) as u32), next))
 }

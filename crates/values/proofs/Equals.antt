@@ -3,15 +3,13 @@ use mathlib.Core.Path.{◌≡◌, refl, sym, ap, ◌∙◌}
 use mathlib.Core.Logic.{⊎_elim}
 use mathlib.Core.Bool.{Bool, true, false, ◌&&◌, ◌||◌, and-true, and-false}
 use mathlib.Core.List.{List}
-use Prim.Native.Nat.{ℕ, ◌+◌, ◌≤◌, ◌<◌}
+use Prim.Native.Nat.{ℕ, ◌≤◌, ◌<◌}
 use native.Mathlib.Omega.{arith}
-use borrow.Author.Count.{below_more}
 use borrow.Author.Tests.{eqb-true, eqb-false, eq-eqb, ne_eqb}
 use lib.IntN.{ℤ}
 use lib.Dec.{eqb}
-use lib.ListN.{length, get_or, set}
-use lib.Seq.{get_or-set_same, get_or-set_other}
-use Rattle.meaning.specs.declared.Found.TheVariants.{At}
+use lib.ListN.{length, get_or}
+use Rattle.std.specs.Prelude.{Some}
 use Rattle.meaning.specs.Walk.{first}
 use Rattle.meaning.specs.Bytes.{eq_z}
 use Rattle.meaning.specs.Document.{Doc, is_version}
@@ -37,7 +35,7 @@ module _ (doc : Doc) where
   compared f g r e n = rw (e, ne_eqb (doc.vkind f) 3 n) (sym (and-true (eqb (doc.vkind f) (doc.vkind g) && eq_z (doc.value f) (doc.value g))))
 
   -- a nil is like itself alone
-  pub alone : (f : ℕ) → f < doc.size → is_version doc f ≡ true → doc.vkind f ≡ 3 → first (alike doc f) 0 doc.size ≡ At f
+  pub alone : (f : ℕ) → f < doc.size → is_version doc f ≡ true → doc.vkind f ≡ 3 → first (alike doc f) 0 doc.size ≡ Some f
   unfolding same_value is_nil
   alone f h v e =
       first-at (alike doc f) f 0 doc.size (omega arith) (omega arith) (simp says (eqb-true (doc.kind f) 2 v, λ q. refl))
@@ -92,7 +90,7 @@ module _ (doc : Doc) where
   chosen_same : (f g x y : ℕ) → is_version doc f ≡ true → is_version doc g ≡ true → (f ≡ g → ⊥) → Chosen doc f x → Chosen doc g y → same_value doc f g ≡ eqb x y
   chosen_same f g x y vf vg apart cf cg =
       tests_same (same_value doc f g) (eqb x y)
-      (λ e. let t : At x ≡ At y = sym (cf.least vf) ∙ lowest-same f g e ∙ cg.least vg in let u : x ≡ y = cc in eq-eqb x y u)
+      (λ e. let t : Some x ≡ Some y = sym (cf.least vf) ∙ lowest-same f g e ∙ cg.least vg in let u : x ≡ y = cc in eq-eqb x y u)
       (λ e. let u = eqb-true x y e in
       let a = lowest-like f x vf cf in
       let b : alike doc g x ≡ true = rw u (lowest-like g y vg cg) in
@@ -103,18 +101,6 @@ module _ (doc : Doc) where
       (λ n. absurd (apart (like_nil f x a n ∙ sym (like_nil g x b (sym (nil_kind f g k) ∙ n)))))
       (agreeing f g k (p.1 ∙ sym q.1))
       (went (is_nil doc f)))
-
-  -- no entry, and one more
-  pub chosen_none : (reps : List ℕ) → ChosenBelow doc 0 reps
-  chosen_none reps = record { each = λ g h. absurd (omega arith) }
-
-  pub chosen_more : (f x : ℕ) (reps : List ℕ) → ChosenBelow doc f reps → f < length reps → Chosen doc f x → ChosenBelow doc (f + 1) (set reps f x)
-  chosen_more f x reps s h c =
-      record {
-        each = below_more (λ g. Chosen doc g (get_or (set reps f x) g 0)) f
-            (λ g l. rw (get_or-set_other reps f g x 0 (λ p. omega arith)) (s.each g l))
-            (rw (get_or-set_same reps f x 0 h) c);
-      }
 
 -- a document is represented as the three columns that hold it are
 module _ (doc : Doc) (kinds vkinds : List ℕ) (values : List ℤ) (v : Values doc kinds vkinds values) where

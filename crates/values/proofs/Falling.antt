@@ -5,12 +5,12 @@ use mathlib.Core.Bool.{Bool, true, false, ◌&&◌, ◌||◌}
 use mathlib.Core.List.{List}
 use Prim.Native.Nat.{ℕ, ◌-◌, ◌≤◌, ◌<◌}
 use native.Mathlib.Omega.{arith}
-use borrow.Author.Tests.{eqb-true, eq-eqb, ne_eqb}
+use borrow.Author.Tests.{eqb-true, eq-eqb}
 use lib.Dec.{eqb}
 use lib.ListN.{get_or}
 use Rattle.meaning.specs.Document.{Doc, is_version}
 use Rattle.meaning.specs.Select.{same_value}
-use Rattle.meaning.proofs.Basics.{clear, and_l, and_r, both, or_cases, or_r}
+use Rattle.meaning.proofs.Basics.{and_l, and_r, both, or_cases, or_r}
 use Rattle.meaning.proofs.Walks.{any_false, first-at}
 use Rattle.meaning.proofs.Places.{counted}
 use Rattle.meaning.proofs.Says.{says}
@@ -30,10 +30,6 @@ Falling doc key f at = Along (has_key doc key (key f)) (alike doc f) f at
 -- a nil stands for itself
 pub nil_alone : (doc : Doc) (f : ℕ) → f < doc.size → doc.vkind f ≡ 3 → Chosen doc f f
 nil_alone doc f h e = record { low = omega arith; least = λ v. alone doc f h v e }
-
--- a record that is no version has nothing to stand for it
-pub no_version : (doc : Doc) (f : ℕ) → (doc.kind f ≡ 2 → ⊥) → Chosen doc f 0
-no_version doc f n = record { low = omega arith; least = λ e. absurd (clear e (ne_eqb (doc.kind f) 2 n)) }
 
 module _ (doc : Doc) (lower : List ℕ) (b : ByValue doc lower) (f : ℕ) (h : f < doc.size) (k : doc.kind f ≡ 2) where
   abbrev m : ℕ → Bool

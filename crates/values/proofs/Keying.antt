@@ -14,9 +14,9 @@ use Rattle.columns.specs.Chains.{Grouped, Chained}
 use Rattle.values.specs.Chosen.{Even, held, ByValue}
 use Rattle.values.proofs.Equals.{agree}
 
--- the key of one value, as a call gets it, is the key of its magnitude
-pub key-at : (values : List ℤ) (m i r : ℕ) → callers.held (get_or values i (pos 0)) ≡ get_or values i (pos 0) → r ≡ mag (callers.held (get_or values i (pos 0))) % m → r ≡ get_or (map mag values) i 0 % m
-key-at values m i r h e = e ∙ ap (λ x. x % m) (ap mag h ∙ sym (get_or-map mag values i (pos 0)))
+-- the key of one value, of whose magnitude r a call tells, is the key of its magnitude
+pub key-at : (values : List ℤ) (m i r : ℕ) → callers.held (get_or values i (pos 0)) ≡ get_or values i (pos 0) → r ≡ mag (callers.held (get_or values i (pos 0))) → r % m ≡ get_or (map mag values) i 0 % m
+key-at values m i r h e = ap (λ x. x % m) (e ∙ ap mag h ∙ sym (get_or-map mag values i (pos 0)))
 
 -- the versions, chained by the keys of their values
 module _ (kinds vkinds : List ℕ) (values : List ℤ) (even : Even kinds vkinds values) (room : ℕ) (keys last lower : List ℕ) where

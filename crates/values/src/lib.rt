@@ -1,18 +1,18 @@
 // A representative for each version, equal exactly for equal values, so that two values are compared by comparing two numbers.
 #![tactic(auto)]
 
-ghost use Rattle.std.specs.Prelude.{◌≡◌, [], map, ◌<◌, ◌≤◌, ◌%◌, length, get_or};
+ghost use Rattle.std.specs.Prelude.{◌≡◌, [], map, ◌<◌, ◌≤◌, length, get_or};
 ghost use Rattle.std.specs.Int.Signed.{mag};
 ghost use Rattle.meaning.specs.Document.{Doc};
 ghost use Rattle.meaning.specs.Select.{same_value};
 ghost use Rattle.meaning.specs.Block.{limit};
 ghost use Rattle.columns.specs.Chains.{Grouped};
-ghost use Rattle.columns.specs.Lent.{Values};
+ghost use Rattle.columns.specs.Lent.{ValuesOf};
 ghost use Rattle.values.specs.Represents.{Represents};
-ghost use Rattle.values.specs.Chosen.{Even, held, Chosen, ChosenBelow, ByValue};
+ghost use Rattle.values.specs.Chosen.{EvenOf, held, held_by, Chosen, ChosenBelow, ByValue};
 
-use columns::LIMIT;
 use columns::chains::chain;
+use columns::{LIMIT, Records};
 use numbers::{index, magnitude};
 
 // Whether records f, which is no nil, and g have equal values.
@@ -23,49 +23,34 @@ fn same_value(vkind: &[u8], value: &[i32], f: usize, g: usize) -> bool
     (vkind[f] == vkind[g]) & numbers::same(value[f], value[g])
 }
 
-// The key of a value, one of LIMIT: values that differ seldom share one.
-fn key_of(value: i32) -> u16
-    ensures { result ≡ mag value % limit }
-{
-    (magnitude(value) % (LIMIT as u32)) as u16
-}
-
-// The keys of a column of values. Cost: one pass over it.
+// The keys of a column of values, each one of LIMIT: values that differ seldom share one. Cost: one pass over it.
 fn keys(value: &[i32]) -> [u16; LIMIT]
     requires { length value.now ≤ limit }
     ensures { Grouped limit (map mag value.now) result }
 {
     let mut key = [0u16; LIMIT];
-    let mut i = 0;
-    while i < value.len() {
-        key[i] = key_of(value[i]);
-        i += 1;
+    for i in 0..value.len() {
+        key[i] = (magnitude(value[i]) % (LIMIT as u32)) as u16;
     }
     key
 }
 
 // The representative of record f, given those of the records below it: for a version that of a lower one with its value, or f itself where
 // there is none, as for a nil; 0 for any other record. A look for each lower version of its key, down to the first with its value.
-fn representative(
-    kind: &[u8],
-    vkind: &[u8],
-    value: &[i32],
-    lower: &[u16],
-    rep: &[u16],
-    f: usize,
-) -> u16
-    requires { Even kind.now vkind.now value.now × ByValue (held kind.now vkind.now value.now) lower.now × (length kind.now ≤ length rep.now) × (f < length kind.now) × ChosenBelow (held kind.now vkind.now value.now) f rep.now }
-    ensures { Chosen (held kind.now vkind.now value.now) f result }
+fn representative(records: Records<'_>, lower: &[u16], rep: &[u16], f: usize) -> u16
+    requires { EvenOf records × ByValue (held_by records) lower.now × (length records.kind.now ≤ length rep.now) × (f < length records.kind.now) × ChosenBelow (held_by records) f rep.now }
+    ensures { Chosen (held_by records.entry) f result }
 {
-    if kind[f] != 2 {
+    if records.kind[f] != 2 {
         return 0;
     }
-    if vkind[f] == 3 {
+    if records.vkind[f] == 3 {
         return f as u16;
     }
     let mut past_g = index(lower[f]);
+    // a while: it follows the links of the chain
     while 0 < past_g {
-        if same_value(vkind, value, f, past_g - 1) {
+        if same_value(records.vkind, records.value, f, past_g - 1) {
             return rep[past_g - 1];
         }
         past_g = index(lower[past_g - 1]);
@@ -74,27 +59,25 @@ fn representative(
 }
 
 // The representatives of all records, by the chains of versions that share a key.
-fn represent_chained(kind: &[u8], vkind: &[u8], value: &[i32], lower: &[u16]) -> [u16; LIMIT]
-    requires { Even kind.now vkind.now value.now × ByValue (held kind.now vkind.now value.now) lower.now }
-    ensures { (length result ≡ limit) × ChosenBelow (held kind.now vkind.now value.now) (length kind.now) result }
+fn represent_chained(records: Records<'_>, lower: &[u16]) -> [u16; LIMIT]
+    requires { EvenOf records × ByValue (held_by records) lower.now }
+    ensures { (length result ≡ limit) × ChosenBelow (held_by records.entry) (length records.entry.kind.now) result }
 {
     let mut rep = [0u16; LIMIT];
-    let mut f = 0;
-    while f < kind.len() {
-        rep[f] = representative(kind, vkind, value, lower, &rep, f);
-        f += 1;
+    for f in 0..records.kind.len() {
+        rep[f] = representative(records, lower, &rep, f);
     }
     rep
 }
 
 // A representative for each record of a document; 0 for one that is no version.
 // Cost: three passes over the columns where the keys of the versions differ, and a look for each pair of versions with one key at worst.
-pub fn represent(kind: &[u8], vkind: &[u8], value: &[i32]) -> [u16; LIMIT]
-    requires { (doc : Doc) × Values doc kind.now vkind.now value.now × (doc.size ≤ limit) }
-    ensures { (doc : Doc) → Values doc kind.now vkind.now value.now → Represents doc result }
+pub fn represent(records: Records<'_>) -> [u16; LIMIT]
+    requires { (doc : Doc) × ValuesOf doc records × (doc.size ≤ limit) }
+    ensures { (doc : Doc) → ValuesOf doc records.entry → Represents doc result }
 {
-    let key = keys(value);
-    let versions = chain(kind, &key, 2);
+    let key = keys(records.value);
+    let versions = chain(records.kind, &key, 2);
     let lower = versions.lower;
-    represent_chained(kind, vkind, value, &lower)
+    represent_chained(records, &lower)
 }

@@ -9,9 +9,8 @@ use borrow.Author.Tests.{eqb-true, eqb-false, eq-eqb}
 use lib.Dec.{eqb, ltb}
 use lib.IntN.{pos}
 use lib.ListN.{length, get_or}
-use Rattle.meaning.specs.declared.Found.{Found}
 use Rattle.meaning.specs.declared.Rule.{Rule}
-use Rattle.meaning.specs.Walk.{first}
+use Rattle.meaning.specs.Walk.{first, Found}
 use Rattle.meaning.specs.Document.{Doc}
 use Rattle.meaning.specs.Rules.{is_key, is_reference, is_sequenced, rule_fields}
 use Rattle.meaning.specs.Window.{Window, shortened, meets, offends_in, offender_in}
@@ -20,6 +19,9 @@ use Rattle.meaning.proofs.Tables.{rule_row}
 use Rattle.prepare.specs.declared.Prepared.{Prepared}
 use Rattle.prepare.specs.Holders.{Skips}
 use Rattle.prepare.specs.Spoiling.{spoils, AsideIn}
+use Rattle.day.specs.declared.lent.Trail.{Trail}
+use Rattle.day.specs.Along.{LentBy}
+use Rattle.day.proofs.Settling.{lent_rows}
 use Rattle.day.specs.Ready.{TermsBy, Terms, Ready, Referred}
 use Rattle.counting.specs.Ready.{Ready as Counted, Terms as Counting}
 use Rattle.window.specs.declared.layout.Layout.{Layout}
@@ -64,20 +66,29 @@ module _ (r : Rule) (f : rule_fields r ≡ true) (no_reference : r.kind ≡ 3 �
 
 module _ {doc : Doc} {q r : Rule} {lay : Layout} {held : Prepared} {begins ends reps groups : List ℕ} (s : Settled doc q r lay held begins ends reps groups) where
   -- up to a reference the lists are the rule's rows
-  pub own-rows : r.kind ≤ 3 → Ready doc r lay.start lay.next lay.last lay.lower begins ends reps
-  own-rows k = record { rows = s.spread.rows k; periods = s.periods; represents = s.represents }
+  pub own-rows : {t : Trail} → LentBy lay.start lay.next lay.last lay.lower t → r.kind ≤ 3 → Ready doc r t.start t.next.now t.last.now t.lower.now begins ends reps
+  own-rows l k = record { rows = lent_rows l (s.spread.rows k); periods = s.periods; represents = s.represents }
 
   -- and a reference has those of the rule that it refers to
-  pub held_rows : r.kind ≡ 3 → Referred doc q held.start held.next held.last held.lower begins ends reps
-  held_rows k =
+  pub held_rows : {t : Trail} → LentBy held.start held.next held.last held.lower t → r.kind ≡ 3 → Referred doc q t.start t.next.now t.last.now t.lower.now begins ends reps
+  held_rows l k =
       let p = s.referred (eq-eqb r.kind 3 k) in
-      record { ready = record { rows = p.0; periods = s.periods; represents = s.represents }; valued_only = p.1 }
+      record { ready = record { rows = lent_rows l p.0; periods = s.periods; represents = s.represents }; valued_only = p.1 }
 
   -- a cardinality has the way along its selected versions and the chains of the item numbers
-  pub chains : is_sequenced r ≡ false → r.kind ≡ 4 → Counted doc r lay.start lay.next begins ends reps groups lay.last lay.lower
-  chains flat k =
+  pub chains : {t : Trail} → LentBy lay.start lay.next lay.last lay.lower t → is_sequenced r ≡ false → r.kind ≡ 4
+      → Counted doc r t.start t.next.now begins ends reps groups t.last.now t.lower.now
+  chains l flat k =
       let p = s.spread.counting k in
-      record { judgeable = s.judgeable; windowed = flat; skips = p.0; periods = s.periods; represents = s.represents; classes = s.classes; gathered = p.1 }
+      record {
+        judgeable = s.judgeable;
+        windowed = flat;
+        skips = rw (l.start_is, l.next_is) p.0;
+        periods = s.periods;
+        represents = s.represents;
+        classes = s.classes;
+        gathered = rw (l.last_is, l.lower_is) p.1;
+      }
 
   -- for a datatype a field version with a reach leads to the next, of as many as there are days of beginning
   pub way : r.kind ≡ 5 → Skips (λ f. ltb 0 (get_or lay.last f 0)) (length begins) lay.start lay.next

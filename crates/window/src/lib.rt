@@ -7,12 +7,14 @@ ghost use Rattle.meaning.specs.declared.Rule.{Rule};
 ghost use Rattle.meaning.specs.Document.{Doc};
 ghost use Rattle.meaning.specs.Rules.{is_sequenced, rule_fields};
 ghost use Rattle.meaning.specs.Window.{Window, shortened, offender_in};
-ghost use Rattle.prepare.specs.declared.Prepared.{Prepared};
 ghost use Rattle.prepare.specs.Spoiling.{AsideIn};
+ghost use Rattle.counting.specs.Ready.{ReadyAlong};
 ghost use Rattle.window.specs.Settled.{Settled};
 
+use counting::Asked;
+use day::lent::{Stretch, Trail};
 use layout::Layout;
-use meaning::{Found, Rule};
+use meaning::Rule;
 use places::Place;
 use prepare::Prepared;
 
@@ -28,35 +30,18 @@ fn asked(shortened: bool, low: usize) -> usize
     low
 }
 
-// The lowest offender of a cardinality at a place, which is a window. Cost: that of the walk.
-fn counted_at(
-    laid: Layout,
-    begin: &[u16],
-    end: &[u16],
-    rep: &[u16],
-    group: &[u16],
-    r: Rule,
-    here: Place,
-) -> Found
-    requires { (rule_fields r ≡ true) × (is_sequenced r ≡ false) × (r.kind ≡ 4) × ((doc : Doc) × (q : Rule) × (held : Prepared) × Settled doc q r laid held begin.now end.now rep.now group.now) }
-    ensures { (doc : Doc) → (q : Rule) → (held : Prepared) → (w : Window) → Settled doc q r laid held begin.now end.now rep.now group.now → w.from ≡ here.from → w.to ≡ here.to → shortened w ≡ here.shortened → result ≡ offender_in doc q r w }
+// The lowest offender of a cardinality in a window, which may be a shortened one. Cost: that of the walk.
+fn counted_at(trail: Trail, stretch: Stretch, group: &[u16], r: Rule, short: bool) -> Option<usize>
+    requires { (rule_fields r ≡ true) × (r.kind ≡ 4) × ((doc : Doc) × ReadyAlong doc r trail stretch group.now) }
+    ensures { (doc : Doc) → (q : Rule) → (w : Window) → ReadyAlong doc r trail.entry stretch.entry group.now → w.from ≡ stretch.entry.from → w.to ≡ stretch.entry.to → shortened w ≡ short → result ≡ offender_in doc q r w }
 {
     let bounds = day::terms::terms(r);
-    counting::counting_in(
-        laid.start,
-        &laid.next,
-        begin,
-        end,
-        rep,
-        group,
-        &laid.last,
-        &laid.lower,
-        r.distinct == 1,
-        asked(here.shortened, bounds.low),
-        bounds.high,
-        here.from,
-        here.to,
-    )
+    let asked = Asked {
+        distinct: r.distinct == 1,
+        low: asked(short, bounds.low),
+        high: bounds.high,
+    };
+    counting::counting_in(trail, stretch, group, asked)
 }
 
 // The lowest offender of a non-sequenced rule, whose lists are laid out, at a place, which is a window, nils aside; `held` is the rule that it refers to,
@@ -70,46 +55,28 @@ pub fn offender_at(
     group: &[u16],
     r: Rule,
     here: Place,
-) -> Found
+) -> Option<usize>
     requires { (rule_fields r ≡ true) × (is_sequenced r ≡ false) × (here.from ≤ 36524) × ((doc : Doc) × (q : Rule) × Settled doc q r laid held begin.now end.now rep.now group.now) }
     ensures { (doc : Doc) → (q : Rule) → (w : Window) → Settled doc q r laid held begin.now end.now rep.now group.now → w.from ≡ here.from → w.to ≡ here.to → shortened w ≡ here.shortened → AsideIn doc w q r result }
 {
     let from = here.from;
     let to = here.to;
+    let trail = Trail::from(&laid);
+    let stretch = Stretch {
+        begin,
+        end,
+        rep,
+        from,
+        to,
+    };
     if r.kind == 4 {
-        return counted_at(laid, begin, end, rep, group, r, here);
+        return counted_at(trail, stretch, group, r, here.shortened);
     }
     if r.kind == 5 {
         return steps::stepped_in(laid.start, &laid.next, begin, end, &laid.last, from, to);
     }
     if r.kind == 3 {
-        return sharing::missing_in(
-            laid.start,
-            &laid.next,
-            &laid.last,
-            &laid.lower,
-            held.start,
-            &held.next,
-            &held.last,
-            &held.lower,
-            begin,
-            end,
-            rep,
-            from,
-            to,
-        );
+        return sharing::missing_in(trail, Trail::from(&held), stretch);
     }
-    sharing::shared_in(
-        laid.start,
-        &laid.next,
-        &laid.last,
-        &laid.lower,
-        begin,
-        end,
-        rep,
-        group,
-        r.kind == 1,
-        from,
-        to,
-    )
+    sharing::shared_in(trail, stretch, group, r.kind == 1)
 }

@@ -8,7 +8,7 @@ use lib.IntN.{pos}
 use lib.ListN.{length, get_or, take, length-map, length-take}
 use lib.Seq.{ext_get_or, get_or-take}
 use Rattle.meaning.specs.declared.Node.{Node}
-use Rattle.meaning.specs.declared.Reading.TheVariants.{Accepted}
+use Rattle.meaning.specs.Reading.{Accepted}
 use Rattle.meaning.specs.Order.{in_order}
 use Rattle.meaning.specs.Block.{node_form, limit, image_tests}
 use Rattle.meaning.specs.Document.{of_nodes}

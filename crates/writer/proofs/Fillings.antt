@@ -1,11 +1,11 @@
--- A block filled step by step: zeros, records one behind the other, and the whole of header, records, zeros and check; then block behind block.
+-- A block filled step by step: records one behind the other, and the whole of header, records, zeros and check; then block behind block.
 use mathlib.Core.Path.{◌≡◌, refl, sym, ap, ◌∙◌}
 use mathlib.Core.List.{List, [], ◌∷◌, ◌++◌, map, append_assoc, append-nil}
-use Prim.Native.Nat.{ℕ, zero, suc, ◌+◌, ◌-◌, ◌*◌, ◌≤◌, min}
+use Prim.Native.Nat.{ℕ, ◌+◌, ◌-◌, ◌*◌, ◌≤◌, min}
 use native.Mathlib.Nat.{zero-add}
 use native.Mathlib.Numerals.{add-one}
 use native.Mathlib.Omega.{arith}
-use lib.ListN.{length, take, drop, set, replicate, length-replicate, length-map}
+use lib.ListN.{length, take, drop, replicate, length-map}
 use borrow.Rule.Slice.PartMut.{mid_of, put_mid}
 use Rattle.meaning.specs.declared.Node.{Node}
 use Rattle.meaning.specs.Walk.{listed}
@@ -22,21 +22,6 @@ use Rattle.writer.proofs.WrittenBlock.{node-room, length_padded}
 use Rattle.writer.proofs.ReadBack.{block_with, length_with}
 use Rattle.writer.proofs.WrittenNodes.{bytes-long}
 use Rattle.writer.proofs.Puts.{puts_on, put_as, put_front, put-lent}
-
--- nothing put yet
-pub put-none : {l : List ℕ} {i n : ℕ} → n ≡ 0 → Put l i (replicate n 0) l
-put-none e = rw e (record { is = refl })
-
--- one zero more at the far end
-zeros-more : (n : ℕ) → replicate {A = ℕ} n 0 ++ (0 ∷ []) ≡ replicate (suc n) 0
-zeros-more zero = refl
-zeros-more (suc n) = ap (λ (s : List ℕ). 0 ∷ s) (zeros-more n)
-
-pub put-zero : {l m : List ℕ} {from at : ℕ} → from ≤ at → Put l from (replicate (at - from) 0) m → Put l from (replicate (at + 1 - from) 0) (set m at 0)
-put-zero {from = from} {at = at} h p =
-    let long : length (replicate {A = ℕ} (at - from) 0) ≡ at - from = length-replicate {A = ℕ} (at - from) 0 in
-    let count : suc (at - from) ≡ at + 1 - from = omega arith in
-    put_as (puts_on p (omega (arith, long)) (record { is = refl })) (zeros-more (at - from) ∙ ap (λ (n : ℕ). replicate n 0) count)
 
 -- a record has 20 bytes
 pub bytes-twenty : (n : Node) → length (node_bytes n) ≡ 20

@@ -11,11 +11,10 @@ use lib.IntN.{pos}
 use lib.Signed.{mag}
 use lib.ListN.{length, get_or, take, drop}
 use lib.Seq.{take_at, drop_at}
-use Rattle.meaning.specs.declared.Reading.{Reading}
-use Rattle.meaning.specs.declared.Reading.TheVariants.{Accepted, Refused}
+use Rattle.meaning.specs.Reading.{Reading, Accepted, Refused}
+use Rattle.std.specs.Prelude.{Result, Ok, Err}
+use Rattle.meaning.specs.declared.Refusal.{Refusal}
 use Rattle.meaning.specs.declared.Node.{Node}
-use Rattle.meaning.specs.declared.Output.{Output}
-use Rattle.meaning.specs.declared.Output.TheVariants.{Written, Refused as Unwritten}
 use Rattle.meaning.specs.Order.{need, and_then}
 use Rattle.meaning.specs.Block.{node_form, limit, blocks_for}
 use Rattle.meaning.specs.Nodes.{nodes_of, image_of, read_nodes}
@@ -24,7 +23,7 @@ use Rattle.meaning.specs.Answer.{output_after, image_after, read_write, write_an
 use Rattle.meaning.proofs.Says.{says}
 use Rattle.meaning.proofs.Walks.{map_listed, get_d_listed}
 use Rattle.meaning.proofs.Unique.{output_unique}
-use Rattle.meaning.proofs.Orders.{contrary, then_accepted, need-accepted}
+use Rattle.meaning.proofs.Orders.{contrary, refused_alike, then_accepted, need-accepted}
 use Rattle.writer.specs.Promise.{WritePromise}
 use Rattle.writer.proofs.WrittenNodes.{ValuesFit, image-length, image-records, image-read}
 use Rattle.writer.proofs.Writes.{lent-count, LentSound, lent-sound}
@@ -41,42 +40,42 @@ fitting n c f i h =
     rw (map_listed (λ (m : Node). m.value) (node_at c) 0 n, get_d_listed (λ k. (node_at c k).value) 0 n i (pos 0) l, e) (f i l)
 
 -- an answer by a reading
-as_read : (y : Reading) (m a b : ℕ) → (output_after y m ≡ Unwritten a b) ↔ (y ≡ Refused a b)
+as_read : (y : Reading) (m a b : ℕ) → (output_after y m ≡ Refused a b) ↔ (y ≡ Refused a b)
 as_read Accepted m a b = (λ e. let z : ◌≡◌ {A = ℕ} 0 1 = cc in absurd (omega arith), λ e. absurd (contrary refl e))
-as_read (Refused k p) m a b = (λ e. (cc), λ e. (cc))
+as_read (Err why) m a b = (λ e. (cc), λ e. (cc))
 
-as_written : (y : Reading) (m k : ℕ) → output_after y m ≡ Written k → (y ≡ Accepted) × (k ≡ m)
+as_written : (y : Reading) (m k : ℕ) → output_after y m ≡ Ok k → (y ≡ Accepted) × (k ≡ m)
 as_written Accepted m k e = (refl, cc)
-as_written (Refused a b) m k e = let z : ◌≡◌ {A = ℕ} 0 1 = cc in absurd (omega arith)
+as_written (Err why) m k e = let z : ◌≡◌ {A = ℕ} 0 1 = cc in absurd (omega arith)
 
 -- a refusal with another number than a test's own: the test passed, and the refusal came from what follows it ..
 refused_later : (t : Bool) (k p : ℕ) (y : Reading) (a b : ℕ) → (a ≡ k → ⊥) → and_then (need t k p) y ≡ Refused a b → (t ≡ true) × (y ≡ Refused a b)
 refused_later true k p y a b other e = (refl, e)
-refused_later false k p y a b other e = absurd (other (cc))
+refused_later false k p y a b other e = absurd (other (sym (refused_alike e).0))
 
 -- .. or from what comes before it
 refused_sooner : (y : Reading) (t : Bool) (k p a b : ℕ) → (a ≡ k → ⊥) → and_then y (need t k p) ≡ Refused a b → y ≡ Refused a b
 refused_sooner Accepted true k p a b other e = absurd (contrary refl e)
-refused_sooner Accepted false k p a b other e = absurd (other (cc))
-refused_sooner (Refused l q) t k p a b other e = e
+refused_sooner Accepted false k p a b other e = absurd (other (sym (refused_alike e).0))
+refused_sooner (Err why) t k p a b other e = e
 
-module _ (n : ℕ) (c : Lent) (image : List ℕ) {x : Output} {after : List ℕ} (p : WritePromise n c image x after) where
+module _ (n : ℕ) (c : Lent) (image : List ℕ) {x : Result ℕ Refusal} {after : List ℕ} (p : WritePromise n c image x after) where
   answer : x ≡ write_answer n c image
   answer = output_unique x (write_answer n c image) p.0
 
   -- refused as the records, the columns and the image's length are
-  pub refused_as_read : (a b : ℕ) → (x ≡ Unwritten a b) ↔ (read_write n c image ≡ Refused a b)
+  pub refused_as_read : (a b : ℕ) → (x ≡ Refused a b) ↔ (read_write n c image ≡ Refused a b)
   unfolding write_answer
   refused_as_read a b =
       let w = as_read (read_write n c image) (length (image_of (nodes_lent n c))) a b in
       (λ e. w.0 (sym answer ∙ e), λ e. answer ∙ w.1 e)
 
   -- then every byte is as it was
-  pub refused_kept : (a b : ℕ) → x ≡ Unwritten a b → after ≡ image
+  pub refused_kept : (a b : ℕ) → x ≡ Refused a b → after ≡ image
   unfolding write_image
-  refused_kept a b e = p.1 ∙ ap (λ (y : Output). image_after y (image_of (nodes_lent n c)) image) (sym answer ∙ e)
+  refused_kept a b e = p.1 ∙ ap (λ (y : Result ℕ Refusal). image_after y (image_of (nodes_lent n c)) image) (sym answer ∙ e)
 
-  module _ (m : ℕ) (e : x ≡ Written m) where
+  module _ (m : ℕ) (e : x ≡ Ok m) where
     read-well : (read_write n c image ≡ Accepted) × (m ≡ length (image_of (nodes_lent n c)))
     unfolding write_answer
     read-well = as_written (read_write n c image) (length (image_of (nodes_lent n c))) m (sym answer ∙ e)
@@ -103,7 +102,7 @@ module _ (n : ℕ) (c : Lent) (image : List ℕ) {x : Output} {after : List ℕ}
     -- .. and the lent image holds it, and past it what it held
     pub written_bytes : after ≡ image_of (nodes_lent n c) ++ drop m image
     unfolding write_image
-    written_bytes = p.1 ∙ ap (λ (y : Output). image_after y (image_of (nodes_lent n c)) image) (sym answer ∙ e)
+    written_bytes = p.1 ∙ ap (λ (y : Result ℕ Refusal). image_after y (image_of (nodes_lent n c)) image) (sym answer ∙ e)
 
     pub written_front : take m after ≡ image_of (nodes_lent n c)
     written_front = ap (take m) written_bytes ∙ take_at (image_of (nodes_lent n c)) (drop m image) m (sym written_long)
@@ -124,7 +123,7 @@ module _ (n : ℕ) (c : Lent) (image : List ℕ) {x : Output} {after : List ℕ}
         rw written_front (image-records (nodes_lent n c) (omega (arith, lent-count n c, s.some)) (fitting n c f))
 
   -- with a count and columns that are taken, the image of the records is refused as the call is
-  pub refused_as_image : 1 ≤ n → n ≤ limit → long_enough n c ≡ true → Fitting n c → (a b : ℕ) → read_nodes (image_of (nodes_lent n c)) ≡ Refused a b → x ≡ Unwritten a b
+  pub refused_as_image : 1 ≤ n → n ≤ limit → long_enough n c ≡ true → Fitting n c → (a b : ℕ) → read_nodes (image_of (nodes_lent n c)) ≡ Refused a b → x ≡ Refused a b
   unfolding read_write read_lent
   refused_as_image one few long f a b e =
       let count = lent-count n c in
@@ -135,7 +134,7 @@ module _ (n : ℕ) (c : Lent) (image : List ℕ) {x : Output} {after : List ℕ}
       both_true h k = simp says (h, k)
 
   -- what is refused with another number than 1 and 12 is refused by the document of the records, and so by the reader of their image
-  pub image-refused_so : Fitting n c → (a b : ℕ) → (a ≡ 1 → ⊥) → (a ≡ 12 → ⊥) → x ≡ Unwritten a b → read_nodes (image_of (nodes_lent n c)) ≡ Refused a b
+  pub image-refused_so : Fitting n c → (a b : ℕ) → (a ≡ 1 → ⊥) → (a ≡ 12 → ⊥) → x ≡ Refused a b → read_nodes (image_of (nodes_lent n c)) ≡ Refused a b
   unfolding read_write read_lent
   image-refused_so f a b not-1 not-12 e =
       let r = (refused_as_read a b).0 e in
@@ -147,7 +146,7 @@ module _ (n : ℕ) (c : Lent) (image : List ℕ) {x : Output} {after : List ℕ}
 
   -- columns that are not refused, and room for their image: it is written
   pub accepted-written : read_lent n c ≡ Accepted → length (image_of (nodes_lent n c)) ≤ length image
-      → (x ≡ Written (length (image_of (nodes_lent n c)))) × (after ≡ image_of (nodes_lent n c) ++ drop (length (image_of (nodes_lent n c))) image)
+      → (x ≡ Ok (length (image_of (nodes_lent n c)))) × (after ≡ image_of (nodes_lent n c) ++ drop (length (image_of (nodes_lent n c))) image)
   unfolding write_answer write_image read_write
   accepted-written e h =
       let t = le-leb (length (image_of (nodes_lent n c))) (length image) h in

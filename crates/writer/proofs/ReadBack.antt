@@ -6,7 +6,7 @@ use native.Mathlib.Nat.{zero-add, mul-zero, mul-suc, div-add-mod, mod-lt}
 use native.Mathlib.Omega.{arith}
 use lib.ListN.{length, get_or, take}
 use Rattle.meaning.specs.declared.Form.{Form}
-use Rattle.meaning.specs.declared.Reading.TheVariants.{Accepted}
+use Rattle.meaning.specs.Reading.{Accepted}
 use Rattle.meaning.specs.Walk.{listed}
 use Rattle.meaning.specs.Order.{in_order}
 use Rattle.meaning.specs.Block.{blocks, block_at, counted, image_tests, records, record_of, block_of, blocks_for, share, blocks_of}

@@ -9,7 +9,7 @@ use borrow.Author.Tests.{lt-ltb, le-ltb}
 use lib.ListN.{length, take, drop, length-take, length-drop, take-append-drop}
 use lib.Seq.{take_all, take-add, get_or-take, get_or-drop, length-take-le}
 use Rattle.meaning.specs.declared.Form.{Form}
-use Rattle.meaning.specs.declared.Reading.TheVariants.{Accepted}
+use Rattle.meaning.specs.Reading.{Accepted}
 use Rattle.meaning.specs.Walk.{listed}
 use Rattle.meaning.specs.Bytes.{byte, two, four, signed, pair, quad, bits}
 use Rattle.meaning.specs.Order.{in_order}

@@ -1,5 +1,6 @@
 -- The refusals of writing said plainly: for each number when it is due, in the order of the call, and that the call's answer says so; which numbers there are.
-use mathlib.Core.Path.{◌≡◌, refl, ap, subst, ◌∙◌}
+use Rattle.std.specs.Prelude.{Err}
+use mathlib.Core.Path.{◌≡◌, refl, sym, ap, subst, ◌∙◌}
 use mathlib.Core.Logic.{◌↔◌, ◌⊎◌, inl, inr}
 use mathlib.Core.Bool.{Bool, true, false, ◌&&◌}
 use mathlib.Core.List.{List, [], ◌∷◌, ◌++◌}
@@ -9,8 +10,7 @@ use borrow.Author.Tests.{leb-true, leb-false}
 use lib.Dec.{leb}
 use lib.ListN.{length, get_or}
 use Rattle.meaning.specs.declared.Node.{Node}
-use Rattle.meaning.specs.declared.Reading.{Reading}
-use Rattle.meaning.specs.declared.Reading.TheVariants.{Accepted, Refused}
+use Rattle.meaning.specs.Reading.{Reading, Accepted, Refused}
 use Rattle.meaning.specs.Walk.{listed}
 use Rattle.meaning.specs.Order.{need, and_then}
 use Rattle.meaning.specs.Block.{limit}
@@ -20,7 +20,7 @@ use Rattle.meaning.specs.Lent.{Lent, node_at, nodes_lent, long_enough, read_lent
 use Rattle.meaning.specs.Answer.{read_write}
 use Rattle.meaning.proofs.Basics.{and_else}
 use Rattle.meaning.proofs.Says.{says}
-use Rattle.meaning.proofs.Orders.{contrary}
+use Rattle.meaning.proofs.Orders.{contrary, refused_alike}
 use Rattle.meaning.proofs.Walks.{map_listed}
 use Rattle.meaning.proofs.Lines.{Line, line, each, each_from, joined, FirstDue, Says, need-says, need-broken, then_says}
 use Rattle.meaning.proofs.Due.{Misplaced, Clashes, record_lines, document_lines}
@@ -123,10 +123,10 @@ lent-numbers n c = document-numbers (of_nodes (nodes_lent n c)) (λ i. ap (λ (s
 -- two tests, a reading and a last test: the number of the first that refuses
 by_number : (t w : Bool) (y : Reading) (r : Bool) (a b : ℕ) → (y ≡ Refused a b → FiveToTen a)
     → and_then (and_then (need t 1 0) (and_then (need w 12 0) y)) (need r 12 0) ≡ Refused a b → (a ≡ 1) ⊎ ((a ≡ 12) ⊎ FiveToTen a)
-by_number false w y r a b f e = inl (cc)
-by_number true false y r a b f e = inr (inl (cc))
-by_number true true (Refused k p) r a b f e = inr (inr (f e))
-by_number true true Accepted false a b f e = inr (inl (cc))
+by_number false w y r a b f e = inl (sym (refused_alike e).0)
+by_number true false y r a b f e = inr (inl (sym (refused_alike e).0))
+by_number true true (Err why) r a b f e = inr (inr (f e))
+by_number true true Accepted false a b f e = inr (inl (sym (refused_alike e).0))
 by_number true true Accepted true a b f e = absurd (contrary refl e)
 
 -- the call is refused with 1, 12, or 5 to 10

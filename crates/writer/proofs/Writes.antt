@@ -5,9 +5,8 @@ use Prim.Native.Nat.{ℕ, ◌*◌, ◌≤◌, ◌<◌}
 use native.Mathlib.Omega.{arith}
 use borrow.Author.Tests.{le-leb, lt-leb}
 use lib.ListN.{length, drop}
-use Rattle.meaning.specs.declared.Reading.{Reading}
-use Rattle.meaning.specs.declared.Reading.TheVariants.{Accepted, Refused}
-use Rattle.meaning.specs.declared.Output.TheVariants.{Written, Refused as Unwritten}
+use Rattle.meaning.specs.Reading.{Reading, Accepted, Refused}
+use Rattle.std.specs.Prelude.{Ok}
 use Rattle.meaning.specs.Block.{node_form, limit, blocks_for}
 use Rattle.meaning.specs.Document.{of_nodes}
 use Rattle.meaning.specs.Nodes.{image_of, accept}
@@ -47,7 +46,7 @@ lent-sound n c e =
 
 module _ (n : ℕ) (c : Lent) (image : List ℕ) {y : Reading} (ey : y ≡ read_lent n c) where
   -- refused by the records, or by the columns
-  pub write_refused : {k p : ℕ} → y ≡ Refused k p → WritePromise n c image (Unwritten k p) image
+  pub write_refused : {k p : ℕ} → y ≡ Refused k p → WritePromise n c image (Refused k p) image
   unfolding write_answer write_image read_write
   write_refused r = let e = sym ey ∙ r in (rw e, rw e)
 
@@ -60,12 +59,12 @@ module _ (n : ℕ) (c : Lent) (image : List ℕ) {y : Reading} (ey : y ≡ read_
       long = image-length (nodes_lent n c) ∙ ap (λ (m : ℕ). 512 * blocks_for node_form m) (lent-count n c) ∙ sym size
 
       -- refused by the image's length
-      pub write_short : length image < s → WritePromise n c image (Unwritten 12 0) image
+      pub write_short : length image < s → WritePromise n c image (Refused 12 0) image
       unfolding write_answer write_image read_write
       write_short h = let e = sym ey ∙ a in let t = lt-leb s (length image) h in (rw (e, long, t), rw (e, long, t))
 
       -- written
-      pub write_done : s ≤ length image → {after : List ℕ} → Put image 0 (image_of (nodes_lent n c)) after → WritePromise n c image (Written s) after
+      pub write_done : s ≤ length image → {after : List ℕ} → Put image 0 (image_of (nodes_lent n c)) after → WritePromise n c image (Ok s) after
       unfolding write_answer write_image read_write
       write_done h p =
           let e = sym ey ∙ a in

@@ -10,7 +10,7 @@ use lib.Signed.{mag}
 use lib.ListN.{length, get_or, length-map}
 use lib.Seq.{ext_get_or}
 use Rattle.meaning.specs.declared.Node.{Node}
-use Rattle.meaning.specs.declared.Reading.TheVariants.{Accepted}
+use Rattle.meaning.specs.Reading.{Accepted}
 use Rattle.meaning.specs.Bytes.{signed, bits}
 use Rattle.meaning.specs.Order.{in_order}
 use Rattle.meaning.specs.Block.{node_form, limit, image_tests, blocks_for, records, record_of}

@@ -5,6 +5,8 @@ use Rattle.meaning.specs.Bytes.{pair, quad, bits}
 use Rattle.meaning.specs.Block.{limit}
 use Rattle.meaning.specs.Nodes.{node_bytes}
 use Rattle.meaning.specs.Lent.{Lent, node_at}
+-- the columns as they are lent, as the meaning has them
+pub use Rattle.document.specs.Front.{held}
 
 -- each of the eight columns has n entries or more
 pub record Reaches (n : ℕ) (c : Lent) : Type 0 where

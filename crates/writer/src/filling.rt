@@ -4,11 +4,14 @@ ghost use Rattle.meaning.specs.Walk.{listed};
 ghost use Rattle.meaning.specs.Bytes.{pair, quad};
 ghost use Rattle.meaning.specs.Block.{node_form, limit, joined, block_of, blocks_for, share};
 ghost use Rattle.meaning.specs.Nodes.{node_bytes, image_of};
-ghost use Rattle.meaning.specs.Lent.{lent, node_at, nodes_lent};
+ghost use Rattle.meaning.specs.Lent.{node_at, nodes_lent};
+ghost use Rattle.document.specs.Front.{held};
 ghost use Rattle.numbers.specs.Put.{Put};
 ghost use Rattle.writer.specs.Filling.{Reaches, first_ten, last_ten, bytes_from, Behind, Block};
 
+use columns::Records;
 use meaning::Node;
+use numbers::field::Field;
 
 // How many records a full block has.
 const FULL: usize = 25;
@@ -18,7 +21,7 @@ pub fn blocks_for(n: usize) -> usize
     requires { n ≤ limit }
     ensures { (result ≡ blocks_for node_form n) × (result ≤ n) }
 {
-    (n + 24) / FULL
+    n.div_ceil(FULL)
 }
 
 // How many of n records are in block b: a full block, or what is left.
@@ -26,8 +29,7 @@ fn count_in(n: usize, b: usize) -> usize
     requires { 25 * b < n }
     ensures { result ≡ min 25 (n - 25 * b) }
 {
-    let left = n - FULL * b;
-    if left < FULL { left } else { FULL }
+    FULL.min(n - FULL * b)
 }
 
 // The header of block b with m records.
@@ -35,10 +37,10 @@ fn put_header(part: &mut [u8], b: usize, m: usize)
     requires { (8 ≤ length part.old) × (b < 4294967296) × (m < 65536) }
     ensures { Put part.old 0 (quad b ++ (pair m ++ (1 ∷ 0 ∷ []))) part.new }
 {
-    numbers::put_four(part, 0, b as u32);
-    numbers::put_two(part, 4, m as u16);
-    numbers::put_one(part, 6, block::NODES.kind);
-    numbers::put_one(part, 7, 0);
+    (b as u32).put(part, 0);
+    (m as u16).put(part, 4);
+    block::NODES.kind.put(part, 6);
+    0u8.put(part, 7);
 }
 
 // The first ten bytes of a record, from a place on: kinds, name, parent, period.
@@ -46,12 +48,12 @@ fn put_first(part: &mut [u8], at: usize, n: Node)
     requires { at + 10 ≤ length part.old }
     ensures { Put part.old at (first_ten n) part.new }
 {
-    numbers::put_one(part, at, n.kind);
-    numbers::put_one(part, at + 1, n.vkind);
-    numbers::put_two(part, at + 2, n.name);
-    numbers::put_two(part, at + 4, n.parent);
-    numbers::put_two(part, at + 6, n.begin);
-    numbers::put_two(part, at + 8, n.end);
+    n.kind.put(part, at);
+    n.vkind.put(part, at + 1);
+    n.name.put(part, at + 2);
+    n.parent.put(part, at + 4);
+    n.begin.put(part, at + 6);
+    n.end.put(part, at + 8);
 }
 
 // The last ten: value, item number, the spare two.
@@ -59,9 +61,9 @@ fn put_last(part: &mut [u8], at: usize, n: Node)
     requires { at + 10 ≤ length part.old }
     ensures { Put part.old at (last_ten n) part.new }
 {
-    numbers::put_four(part, at, numbers::bits_of(n.value));
-    numbers::put_four(part, at + 4, n.item);
-    numbers::put_two(part, at + 8, n.spare);
+    n.value.put(part, at);
+    n.item.put(part, at + 4);
+    n.spare.put(part, at + 8);
 }
 
 // The 20 bytes of a record, from a place on.
@@ -74,150 +76,62 @@ fn put_record(part: &mut [u8], at: usize, n: Node)
 }
 
 // Record i of the columns.
-fn node_at(
-    kind: &[u8],
-    vkind: &[u8],
-    name: &[u16],
-    parent: &[u16],
-    begin: &[u16],
-    end: &[u16],
-    value: &[i32],
-    item: &[u32],
-    i: usize,
-) -> Node
-    requires { Reaches (i + 1) (lent kind.now vkind.now name.now parent.now begin.now end.now value.now item.now) }
-    ensures { result ≡ node_at (lent kind.now vkind.now name.now parent.now begin.now end.now value.now item.now) i }
+fn node_at(records: Records<'_>, i: usize) -> Node
+    requires { Reaches (i + 1) (held records) }
+    ensures { result ≡ node_at (held records.entry) i }
 {
     Node {
-        kind: kind[i],
-        vkind: vkind[i],
-        name: name[i],
-        parent: parent[i],
-        begin: begin[i],
-        end: end[i],
-        value: value[i],
-        item: item[i],
+        kind: records.kind[i],
+        vkind: records.vkind[i],
+        name: records.name[i],
+        parent: records.parent[i],
+        begin: records.begin[i],
+        end: records.end[i],
+        value: records.value[i],
+        item: records.item[i],
         spare: 0,
     }
 }
 
 // m records, from the first on, one after the other behind a block's header.
-fn put_records(
-    first: usize,
-    m: usize,
-    kind: &[u8],
-    vkind: &[u8],
-    name: &[u16],
-    parent: &[u16],
-    begin: &[u16],
-    end: &[u16],
-    value: &[i32],
-    item: &[u32],
-    part: &mut [u8],
-)
-    requires { Behind first m (lent kind.now vkind.now name.now parent.now begin.now end.now value.now item.now) (length part.old) }
-    ensures { Put part.old 8 (joined (listed (bytes_from (lent kind.now vkind.now name.now parent.now begin.now end.now value.now item.now) first) 0 m)) part.new }
+fn put_records(first: usize, m: usize, records: Records<'_>, part: &mut [u8])
+    requires { Behind first m (held records) (length part.old) }
+    ensures { Put part.old 8 (joined (listed (bytes_from (held records.entry) first) 0 m)) part.new }
 {
-    let mut k = 0;
-    while k < m {
-        let n = node_at(
-            kind,
-            vkind,
-            name,
-            parent,
-            begin,
-            end,
-            value,
-            item,
-            first + k,
-        );
-        put_record(part, 8 + 20 * k, n);
-        k += 1;
+    for k in 0..m {
+        put_record(part, 8 + 20 * k, node_at(records, first + k));
     }
 }
 
 // Zeros from a place to the check.
+#[tactic(auto, using(numbers::proofs::Stores::copied))]
 fn put_zeros(part: &mut [u8], from: usize)
     requires { (from ≤ 508) × (508 ≤ length part.old) }
     ensures { Put part.old from (replicate (508 - from) 0) part.new }
 {
-    let mut at = from;
-    while at < 508 {
-        part[at] = 0;
-        at += 1;
-    }
+    part[from..508].fill(0);
 }
 
 // Block b of n records, in the first 512 bytes of the part.
-fn fill_block(
-    n: usize,
-    b: usize,
-    kind: &[u8],
-    vkind: &[u8],
-    name: &[u16],
-    parent: &[u16],
-    begin: &[u16],
-    end: &[u16],
-    value: &[i32],
-    item: &[u32],
-    part: &mut [u8],
-)
-    requires { Block n b (lent kind.now vkind.now name.now parent.now begin.now end.now value.now item.now) (length part.old) }
-    ensures { Put part.old 0 (block_of node_form b (share node_form b (map node_bytes (nodes_lent n (lent kind.now vkind.now name.now parent.now begin.now end.now value.now item.now))))) part.new }
+fn fill_block(n: usize, b: usize, records: Records<'_>, part: &mut [u8])
+    requires { Block n b (held records) (length part.old) }
+    ensures { Put part.old 0 (block_of node_form b (share node_form b (map node_bytes (nodes_lent n (held records.entry))))) part.new }
 {
     let m = count_in(n, b);
     put_header(part, b, m);
-    put_records(
-        FULL * b,
-        m,
-        kind,
-        vkind,
-        name,
-        parent,
-        begin,
-        end,
-        value,
-        item,
-        part,
-    );
+    put_records(FULL * b, m, records, part);
     put_zeros(part, 8 + 20 * m);
     let check = block::check_of(&part[0..508]);
-    numbers::put_four(part, 508, check);
+    check.put(part, 508);
 }
 
 // All blocks of n records, each from its own place in the image onward.
-pub fn fill_blocks(
-    n: usize,
-    kind: &[u8],
-    vkind: &[u8],
-    name: &[u16],
-    parent: &[u16],
-    begin: &[u16],
-    end: &[u16],
-    value: &[i32],
-    item: &[u32],
-    image: &mut [u8],
-)
-    requires { (n ≤ limit) × Reaches n (lent kind.now vkind.now name.now parent.now begin.now end.now value.now item.now) × (512 * blocks_for node_form n ≤ length image.old) }
-    ensures { Put image.old 0 (image_of (nodes_lent n (lent kind.now vkind.now name.now parent.now begin.now end.now value.now item.now))) image.new }
+pub fn fill_blocks(n: usize, records: Records<'_>, image: &mut [u8])
+    requires { (n ≤ limit) × Reaches n (held records) × (512 * blocks_for node_form n ≤ length image.old) }
+    ensures { Put image.old 0 (image_of (nodes_lent n (held records.entry))) image.new }
 {
-    let count = blocks_for(n);
-    let mut b = 0;
-    while b < count {
+    for b in 0..blocks_for(n) {
         let at = 512 * b;
-        fill_block(
-            n,
-            b,
-            kind,
-            vkind,
-            name,
-            parent,
-            begin,
-            end,
-            value,
-            item,
-            &mut image[at..],
-        );
-        b += 1;
+        fill_block(n, b, records, &mut image[at..]);
     }
 }

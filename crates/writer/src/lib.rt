@@ -1,10 +1,11 @@
 // Records written to an image: from lent columns to whole blocks, each filled from its own place onward, or refused and nothing stored.
 #![tactic(auto)]
 
-ghost use Rattle.meaning.specs.Lent.{lent};
+ghost use Rattle.writer.specs.Filling.{held};
 ghost use Rattle.writer.specs.Promise.{WritePromise};
 
-use meaning::{Output, Reading};
+use columns::Records;
+use meaning::Refusal;
 
 pub mod filling; // filling.rt: blocks filled in a lent stretch of bytes
 
@@ -12,32 +13,21 @@ pub mod filling; // filling.rt: blocks filled in a lent stretch of bytes
 // were written, and the bytes past them stay; or refused as the reader would refuse that image, with 1 for a count of none or too many, or
 // with 12 for a short column or a short image, and every byte stays. Cost: the document's tests, then one look at each record and three at
 // each byte written.
-pub fn write_nodes(
-    count: usize,
-    kind: &[u8],
-    vkind: &[u8],
-    name: &[u16],
-    parent: &[u16],
-    begin: &[u16],
-    end: &[u16],
-    value: &[i32],
-    item: &[u32],
-    image: &mut [u8],
-) -> Output
-    ensures { WritePromise count (lent kind.now vkind.now name.now parent.now begin.now end.now value.now item.now) image.old result image.new }
+pub fn write_nodes(count: usize, records: Records<'_>, image: &mut [u8]) -> Result<usize, Refusal>
+    ensures { WritePromise count (held records.entry) image.old result image.new }
 {
-    let read = document::front::accept_lent(
-        count, kind, vkind, name, parent, begin, end, value, item,
-    );
-    if let Reading::Refused(number, place) = read {
-        return Output::Refused(number, place);
+    // not `?`, so that the edits that answer another refusal here are refused by a fact
+    let read = document::front::accept_lent(count, records);
+    if let Err(why) = read {
+        return Err(why);
     }
     let size = 512 * filling::blocks_for(count);
     if image.len() < size {
-        return Output::Refused(12, 0);
+        return Err(Refusal {
+            number: 12,
+            place: 0,
+        });
     }
-    filling::fill_blocks(
-        count, kind, vkind, name, parent, begin, end, value, item, image,
-    );
-    Output::Written(size)
+    filling::fill_blocks(count, records, image);
+    Ok(size)
 }

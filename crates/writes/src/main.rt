@@ -2,9 +2,11 @@
 // test program of the writer, over many cases in one process. A case is a header of 40 bytes and eight columns (`tests/README.md`).
 #![tactic(auto)]
 
-ghost use Rattle.std.specs.Prelude.{◌*◌, ◌≤◌, length};
+ghost use Rattle.std.specs.Prelude.{◌≡◌, ◌*◌, ◌≤◌, length};
 
-use meaning::Output;
+use columns::Records;
+use meaning::Refusal;
+use numbers::field::Field;
 use std::io::Read;
 use std::{fs, io};
 
@@ -30,131 +32,83 @@ fn long(head: &[u8; 40], at: usize) -> usize
     numbers::four_at(head, at) as usize
 }
 
-// The first n numbers, or all.
-fn front_pairs(s: &[u16], n: usize) -> &[u16] {
-    if n <= s.len() { &s[0..n] } else { s }
+// The first n entries of a column, or all.
+fn front<T>(s: &[T], n: usize) -> &[T] {
+    &s[..n.min(s.len())]
 }
 
-// The first n signed numbers, or all.
-fn front_signed(s: &[i32], n: usize) -> &[i32] {
-    if n <= s.len() { &s[0..n] } else { s }
-}
-
-// The first n long numbers, or all.
-fn front_quads(s: &[u32], n: usize) -> &[u32] {
-    if n <= s.len() { &s[0..n] } else { s }
-}
-
-// A column of numbers out of its bytes.
-fn decode_pairs(bytes: &[u8], column: &mut [u16])
-    requires { 2 * length column.old ≤ length bytes.now }
+// A column out of its bytes, where an entry takes so many of them.
+fn decode<T: Field>(bytes: &[u8], width: usize, column: &mut [T])
+    requires { (width ≡ T.width) × (width ≤ 4) × (4 * length column.old ≤ length bytes.now) }
 {
     for i in 0..column.len() {
-        column[i] = numbers::two_at(bytes, 2 * i);
+        column[i] = T::read(bytes, width * i);
     }
 }
 
-// A column of signed numbers out of its bytes.
-fn decode_signed(bytes: &[u8], column: &mut [i32])
-    requires { 4 * length column.old ≤ length bytes.now }
+// Whether the next n entries of the file came into the column's front; not if there is no room for them.
+fn take<T: Field>(cases: &mut impl Read, n: usize, width: usize, column: &mut [T]) -> bool
+    requires { (width ≡ T.width) × (width ≤ 4) }
 {
-    for i in 0..column.len() {
-        column[i] = numbers::signed_at(bytes, 4 * i);
-    }
-}
-
-// A column of long numbers out of its bytes.
-fn decode_quads(bytes: &[u8], column: &mut [u32])
-    requires { 4 * length column.old ≤ length bytes.now }
-{
-    for i in 0..column.len() {
-        column[i] = numbers::four_at(bytes, 4 * i);
-    }
-}
-
-// Whether the next n numbers of the file came into the column's front; not if there is no room for them.
-fn take_pairs(cases: &mut impl Read, n: usize, column: &mut [u16]) -> bool {
-    let mut bytes = [0u8; 2 * MOST];
-    if MOST < n {
-        return false;
-    }
-    if column.len() < n {
-        return false;
-    }
-    let came = files::filled_front(cases, 2 * n, &mut bytes);
-    decode_pairs(&bytes, &mut column[0..n]);
-    came
-}
-
-// The same of signed numbers.
-fn take_signed(cases: &mut impl Read, n: usize, column: &mut [i32]) -> bool {
     let mut bytes = [0u8; 4 * MOST];
-    if MOST < n {
+    if (MOST < n) | (column.len() < n) {
         return false;
     }
-    if column.len() < n {
-        return false;
-    }
-    let came = files::filled_front(cases, 4 * n, &mut bytes);
-    decode_signed(&bytes, &mut column[0..n]);
+    let came = files::filled_front(cases, width * n, &mut bytes);
+    decode(&bytes, width, &mut column[0..n]);
     came
 }
 
-// The same of long numbers.
-fn take_quads(cases: &mut impl Read, n: usize, column: &mut [u32]) -> bool {
-    let mut bytes = [0u8; 4 * MOST];
-    if MOST < n {
-        return false;
-    }
-    if column.len() < n {
-        return false;
-    }
-    let came = files::filled_front(cases, 4 * n, &mut bytes);
-    decode_quads(&bytes, &mut column[0..n]);
-    came
+// The columns of a case.
+#[derive(Drop)]
+struct Case {
+    kind: [u8; MOST],
+    vkind: [u8; MOST],
+    name: [u16; MOST],
+    parent: [u16; MOST],
+    begin: [u16; MOST],
+    end: [u16; MOST],
+    value: [i32; MOST],
+    item: [u32; MOST],
 }
 
 // Whether the two columns of bytes came, each with as many entries as the header says.
-fn take_kinds(cases: &mut impl Read, head: &[u8; 40], kind: &mut [u8], vkind: &mut [u8]) -> bool {
-    let kinds = files::filled_front(cases, long(head, 8), kind);
-    let vkinds = files::filled_front(cases, long(head, 12), vkind);
+fn take_kinds(cases: &mut impl Read, head: &[u8; 40], case: &mut Case) -> bool {
+    let kinds = files::filled_front(cases, long(head, 8), &mut case.kind);
+    let vkinds = files::filled_front(cases, long(head, 12), &mut case.vkind);
     kinds & vkinds
 }
 
 // The same of the four columns of numbers.
-fn take_numbers(
-    cases: &mut impl Read,
-    head: &[u8; 40],
-    name: &mut [u16],
-    parent: &mut [u16],
-    begin: &mut [u16],
-    end: &mut [u16],
-) -> bool {
-    let names = take_pairs(cases, long(head, 16), name);
-    let parents = take_pairs(cases, long(head, 20), parent);
-    let begins = take_pairs(cases, long(head, 24), begin);
-    let ends = take_pairs(cases, long(head, 28), end);
+fn take_numbers(cases: &mut impl Read, head: &[u8; 40], case: &mut Case) -> bool {
+    let names = take(cases, long(head, 16), 2, &mut case.name);
+    let parents = take(cases, long(head, 20), 2, &mut case.parent);
+    let begins = take(cases, long(head, 24), 2, &mut case.begin);
+    let ends = take(cases, long(head, 28), 2, &mut case.end);
     names & parents & begins & ends
 }
 
 // The same of all columns.
-fn take_columns(
-    cases: &mut impl Read,
-    head: &[u8; 40],
-    kind: &mut [u8],
-    vkind: &mut [u8],
-    name: &mut [u16],
-    parent: &mut [u16],
-    begin: &mut [u16],
-    end: &mut [u16],
-    value: &mut [i32],
-    item: &mut [u32],
-) -> bool {
-    let kinds = take_kinds(cases, head, kind, vkind);
-    let numbers = take_numbers(cases, head, name, parent, begin, end);
-    let values = take_signed(cases, long(head, 32), value);
-    let items = take_quads(cases, long(head, 36), item);
+fn take_columns(cases: &mut impl Read, head: &[u8; 40], case: &mut Case) -> bool {
+    let kinds = take_kinds(cases, head, case);
+    let numbers = take_numbers(cases, head, case);
+    let values = take(cases, long(head, 32), 4, &mut case.value);
+    let items = take(cases, long(head, 36), 4, &mut case.item);
     kinds & numbers & values & items
+}
+
+// Exactly the header's part of each column.
+fn lent<'a>(case: &'a Case, head: &[u8; 40]) -> Records<'a> {
+    Records {
+        kind: front(&case.kind, long(head, 8)),
+        vkind: front(&case.vkind, long(head, 12)),
+        name: front(&case.name, long(head, 16)),
+        parent: front(&case.parent, long(head, 20)),
+        begin: front(&case.begin, long(head, 24)),
+        end: front(&case.end, long(head, 28)),
+        value: front(&case.value, long(head, 32)),
+        item: front(&case.item, long(head, 36)),
+    }
 }
 
 // The digit of a number below 16.
@@ -189,14 +143,14 @@ fn put_image(text: &mut [u8], at: usize, image: &[u8]) -> usize {
 }
 
 // What was answered, in a line.
-fn put_output(text: &mut [u8], at: usize, output: Output) -> usize {
+fn put_output(text: &mut [u8], at: usize, output: Result<usize, Refusal>) -> usize {
     match output {
-        Output::Written(size) => {
+        Ok(size) => {
             let word = spelling::put(text, at, b"written");
             let end = spelling::put_next(text, word, size);
             spelling::put(text, end, b"\n")
         }
-        Output::Refused(number, place) => {
+        Err(Refusal { number, place }) => {
             let word = spelling::put(text, at, b"refused");
             let first = spelling::put_next(text, word, number);
             let end = spelling::put_next(text, first, place);
@@ -206,7 +160,12 @@ fn put_output(text: &mut [u8], at: usize, output: Output) -> usize {
 }
 
 // All lines of one case.
-fn write_answer(rt: &impl Print, number: usize, output: Output, image: &[u8]) -> io::Result<()> {
+fn write_answer(
+    rt: &impl Print,
+    number: usize,
+    output: Result<usize, Refusal>,
+    image: &[u8],
+) -> io::Result<()> {
     let mut text = [0u8; TEXT];
     let word = spelling::put(&mut text, 0, b"case");
     let named = spelling::put_next(&mut text, word, number);
@@ -216,49 +175,13 @@ fn write_answer(rt: &impl Print, number: usize, output: Output, image: &[u8]) ->
     rt.write_all(spelling::front(&text, end))
 }
 
-// Has the records of a case written to a lent image, from exactly the header's part of each column, and writes its lines.
+// Has the records of a case written to an image of exactly the header's room that no writer has touched, and writes its lines; not if that is more
+// room than there may be.
 fn answer(
     rt: &impl Print,
     number: usize,
     head: &[u8; 40],
-    kind: &[u8],
-    vkind: &[u8],
-    name: &[u16],
-    parent: &[u16],
-    begin: &[u16],
-    end: &[u16],
-    value: &[i32],
-    item: &[u32],
-    image: &mut [u8],
-) -> io::Result<()> {
-    let output = bank::write_nodes(
-        long(head, 0),
-        spelling::front(kind, long(head, 8)),
-        spelling::front(vkind, long(head, 12)),
-        front_pairs(name, long(head, 16)),
-        front_pairs(parent, long(head, 20)),
-        front_pairs(begin, long(head, 24)),
-        front_pairs(end, long(head, 28)),
-        front_signed(value, long(head, 32)),
-        front_quads(item, long(head, 36)),
-        image,
-    );
-    write_answer(rt, number, output, image)
-}
-
-// The same in an image of exactly the header's room that no writer has touched; not if that is more than there may be.
-fn answer_in(
-    rt: &impl Print,
-    number: usize,
-    head: &[u8; 40],
-    kind: &[u8],
-    vkind: &[u8],
-    name: &[u16],
-    parent: &[u16],
-    begin: &[u16],
-    end: &[u16],
-    value: &[i32],
-    item: &[u32],
+    records: Records<'_>,
 ) -> io::Result<bool> {
     let mut image = [165u8; ROOM];
     let room = long(head, 4);
@@ -266,9 +189,8 @@ fn answer_in(
         return Ok(false);
     }
     let lent = &mut image[0..room];
-    answer(
-        rt, number, head, kind, vkind, name, parent, begin, end, value, item, lent,
-    )?;
+    let output = bank::write_nodes(long(head, 0), records, lent);
+    write_answer(rt, number, output, lent)?;
     Ok(true)
 }
 
@@ -279,31 +201,20 @@ fn whole_case(
     number: usize,
     head: &[u8; 40],
 ) -> io::Result<bool> {
-    let mut kind = [0u8; MOST];
-    let mut vkind = [0u8; MOST];
-    let mut name = [0u16; MOST];
-    let mut parent = [0u16; MOST];
-    let mut begin = [0u16; MOST];
-    let mut end = [0u16; MOST];
-    let mut value = [0i32; MOST];
-    let mut item = [0u32; MOST];
-    if !take_columns(
-        cases,
-        head,
-        &mut kind,
-        &mut vkind,
-        &mut name,
-        &mut parent,
-        &mut begin,
-        &mut end,
-        &mut value,
-        &mut item,
-    ) {
+    let mut case = Case {
+        kind: [0u8; MOST],
+        vkind: [0u8; MOST],
+        name: [0u16; MOST],
+        parent: [0u16; MOST],
+        begin: [0u16; MOST],
+        end: [0u16; MOST],
+        value: [0i32; MOST],
+        item: [0u32; MOST],
+    };
+    if !take_columns(cases, head, &mut case) {
         return Ok(false);
     }
-    answer_in(
-        rt, number, head, &kind, &vkind, &name, &parent, &begin, &end, &value, &item,
-    )
+    answer(rt, number, head, lent(&case, head))
 }
 
 // Whether there was one more case in the file; its lines are written.

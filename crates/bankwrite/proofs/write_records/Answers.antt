@@ -4,4 +4,4 @@ use Rattle.bankwrite.proofs.Kept.{image-kept}
 use Rattle.bankwrite.proofs.write_records.Goals as goal
 
 pub keep-requires : goal.keep-requires
-keep-requires g c = c.front.ensures ∙ image-kept c.requires.0 c.requires.1 c.write_nodes-output.ensures c.in-Written.is
+keep-requires g c = c.front.ensures ∙ image-kept c.requires.0 c.requires.1 c.write_nodes-output.ensures c.in-Ok.is

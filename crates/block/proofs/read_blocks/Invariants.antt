@@ -6,7 +6,4 @@ use Rattle.block.proofs.Answers.{answer_at}
 use Rattle.block.proofs.read_blocks.Given as goal
 
 abbrev pub invariant-loop-b : goal.invariant-loop-b
-invariant-loop-b l = (l.b ≤ l.count) × (l.count ≤ 65536) × (512 * l.count ≡ length l.image) × (earliest (answer_at l.form l.image) l.b (l.count - l.b) ≡ in_order (image_tests l.form l.image))
-
-abbrev pub decreases-loop-b : goal.decreases-loop-b
-decreases-loop-b l = l.count - l.b
+invariant-loop-b l = (l.count ≤ 65536) × (512 * l.count ≡ length l.image) × (earliest (answer_at l.form l.image) l.b (l.count - l.b) ≡ in_order (image_tests l.form l.image))

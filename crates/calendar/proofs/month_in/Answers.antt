@@ -1,4 +1,4 @@
--- `calendar::month_in` meets its contract. The loop's invariant: no month before number k starts on the day. Its measure: the months that are left.
+-- `calendar::month_in` meets its contract. The loop's invariant: no month before number k starts on the day.
 -- Assumes nothing.
 use mathlib.Core.Path.{◌≡◌, sym, ◌∙◌}
 use mathlib.Core.Logic.{by_cases}
@@ -7,13 +7,13 @@ use native.Mathlib.Decide.{dec_le}
 use native.Mathlib.Omega.{arith}
 use borrow.Author.Count.{below_more}
 use Rattle.calendar.specs.Gregorian.{month_start, month_on}
-use Rattle.calendar.specs.declared.Month.TheVariants.{Absent}
+use Rattle.std.specs.Prelude.{None}
 use Rattle.calendar.proofs.Months.{start_early, start_rises, month_on-start, month_on-absent}
 use Rattle.calendar.proofs.month_in.Invariants.{Passed}
 use Rattle.calendar.proofs.month_in.Goals as goal
 
 -- and none from k on, where month k starts past it
-none_left : (day k : ℕ) → Passed day k → day < month_start k → month_on day ≡ Absent
+none_left : (day k : ℕ) → Passed day k → day < month_start k → month_on day ≡ None
 none_left day k passed late =
     month_on-absent day
     (λ j h q. by_cases (dec_le k j) (λ m. omega (arith, start_rises k j m)) (λ m. passed j (omega arith) q))

@@ -1,7 +1,7 @@
--- `calendar::month_in` meets its contract. The loop's invariant: no month before number k starts on the day. Its measure: the months that are left.
+-- `calendar::month_in` meets its contract. The loop's invariant: no month before number k starts on the day.
 -- Assumes nothing.
 use mathlib.Core.Path.{◌≡◌}
-use Prim.Native.Nat.{ℕ, ◌-◌, ◌<◌}
+use Prim.Native.Nat.{ℕ, ◌<◌}
 use Rattle.calendar.specs.Gregorian.{month_start}
 use Rattle.calendar.proofs.month_in.Given as goal
 
@@ -11,6 +11,3 @@ Passed day k = (j : ℕ) → j < k → month_start j ≡ day → ⊥
 
 abbrev pub invariant-loop-k : goal.invariant-loop-k
 invariant-loop-k l = Passed l.day l.k
-
-abbrev pub decreases-loop-k : goal.decreases-loop-k
-decreases-loop-k l = 1201 - l.k

@@ -12,7 +12,7 @@ use Rattle.counting.proofs.first_counted.Goals as goal
 pub loop-v-init : goal.loop-v-init
 loop-v-init c =
     let f = c.requires.3 in
-    (refl, refl, λ y. omega (arith, f.none y), λ doc r s. looked_start _ _ _ _ _ _ _ (starts _ _ _ _ _ _ _ _ _ _ s) f.classes.none)
+    (refl, refl, λ y. omega (arith, f.none y), λ doc r s. looked_start _ _ _ _ _ _ _ (starts s) f.classes.none)
 
 pub item_breaks-requires : goal.item_breaks-requires
 item_breaks-requires c =
@@ -20,8 +20,8 @@ item_breaks-requires c =
     let s = c.loop-v in
     let h = c.loop-v-test.true in (
       h,
-      fits _ _ _ _ _ _ _ _ _ _ p.2 _ _ (omega (arith, s.invariant.0, p.3.classes.room)) (omega (arith, s.invariant.1, p.3.seen_room)),
-      (in_group p.0 p.1 (number_of p.0 s.v), chain-of _ _ _ _ _ _ _ _ _ _ p.2 s.v ((s.invariant.3 p.0 p.1 p.2).is_chosen h)),
+      fits p.2 _ _ (omega (arith, s.invariant.0, p.3.classes.room)) (omega (arith, s.invariant.1, p.3.seen_room)),
+      (in_group p.0 p.1 (number_of p.0 s.v), chain-of p.2 s.v ((s.invariant.3 p.0 p.1 p.2).is_chosen h)),
       s.invariant.2,
     )
 
@@ -32,19 +32,19 @@ returns-then-item_breaks c =
     let b = c.item_breaks.ensures in
     λ doc q r w held terms a e.
     let l = s.invariant.3 doc r held in
-    looked_found _ _ _ _ _ (alike _ _ _ _ _ _ _ _ _ _ held _ _ _ _ _) _ _ l h _ _ (b.met _ (chain-of _ _ _ _ _ _ _ _ _ _ held s.v (l.is_chosen h))) c.if-item_breaks.true
-    ∙ answers _ _ _ _ _ _ _ _ _ _ held _ _ _ _ _ q w terms a e
+    looked_found _ _ _ _ _ (alike _ _ c.args.trail c.args.stretch _ held _) _ _ l h _ _ (b.met _ (chain-of held s.v (l.is_chosen h))) c.if-item_breaks.true
+    ∙ answers _ _ c.args.trail c.args.stretch _ held _ q w terms a e
 
-pub offset_bounds-next-v : goal.offset_bounds-next-v
-offset_bounds-next-v c =
-    omega (arith, next-room _ _ _ _ _ _ _ _ _ _ c.requires.2)
+pub offset_bounds-trail-v : goal.offset_bounds-trail-v
+offset_bounds-trail-v c =
+    omega (arith, next-room c.requires.2)
 
-pub bounds-next-v : goal.bounds-next-v
-bounds-next-v c = omega (arith, next-room _ _ _ _ _ _ _ _ _ _ c.requires.2)
+pub bounds-trail-v : goal.bounds-trail-v
+bounds-trail-v c = omega (arith, next-room c.requires.2)
 
 pub loop-v-smaller : goal.loop-v-smaller
 loop-v-smaller c =
-    next_more _ _ _ _ _ _ _ _ _ _ c.requires.2 _ c.loop-v-test.true _ c.index-v.ensures
+    next_more c.requires.2 _ c.loop-v-test.true _ c.index-v.ensures
 
 pub loop-v-preserved : goal.loop-v-preserved
 loop-v-preserved c =
@@ -52,15 +52,15 @@ loop-v-preserved c =
     let s = c.loop-v in
     let h = c.loop-v-test.true in
     let b = c.item_breaks.ensures in
-    let m = next_of _ _ _ _ _ _ _ _ _ _ p.2 _ h _ c.index-v.ensures in (
+    let m = next_of p.2 _ h _ c.index-v.ensures in (
       search rules,
       search rules,
       λ y. omega (arith, b.tokens y, m.from),
       λ doc r held.
           let l = s.invariant.3 doc r held in
-          looked_step _ _ _ _ _ (alike _ _ _ _ _ _ _ _ _ _ held _ _ _ _ _) _ _ l h _ _ (b.met _ (chain-of _ _ _ _ _ _ _ _ _ _ held s.v (l.is_chosen h))) c.if-item_breaks.false
-          _ (next_of _ _ _ _ _ _ _ _ _ _ held _ h _ c.index-v.ensures),
+          looked_step _ _ _ _ _ (alike _ _ c.args.trail c.args.stretch _ held _) _ _ l h _ _ (b.met _ (chain-of held s.v (l.is_chosen h))) c.if-item_breaks.false
+          _ (next_of held _ h _ c.index-v.ensures),
     )
 
 pub returns : goal.returns
-returns c = λ doc q r w held terms a e. looked_end _ _ _ _ _ _ _ (c.loop-v.invariant.3 doc r held) c.loop-v-test.false ∙ answers _ _ _ _ _ _ _ _ _ _ held _ _ _ _ _ q w terms a e
+returns c = λ doc q r w held terms a e. looked_end _ _ _ _ _ _ _ (c.loop-v.invariant.3 doc r held) c.loop-v-test.false ∙ answers _ _ c.args.trail c.args.stretch _ held _ q w terms a e

@@ -5,16 +5,17 @@ use lib.ListN.{length, get_or}
 use Rattle.meaning.specs.declared.Rule.{Rule}
 use Rattle.meaning.specs.Document.{Doc}
 use Rattle.meaning.specs.Select.{selected}
-use Rattle.counting.specs.Number.{touches, Below}
-use Rattle.counting.specs.Ready.{Ready}
+use Rattle.counting.specs.Number.{Below}
+use Rattle.day.specs.Along.{size, there}
+use Rattle.counting.specs.Ready.{ReadyAlong}
 use Rattle.counting.proofs.Looking.{Looked}
 use Rattle.counting.proofs.Offence.{bad_in}
 use Rattle.counting.proofs.first_counted.Given as goal
 
 abbrev pub invariant-loop-v : goal.invariant-loop-v
 invariant-loop-v l = (length l.done ≡ length l.initial.done) × (length l.seen ≡ length l.initial.seen) × Below (l.v + 1) l.seen
-    × ((doc : Doc) (r : Rule) → Ready doc r l.start l.next l.begin l.end l.rep l.group l.last l.lower
-    → Looked (length l.begin) (selected doc r) (touches l.begin l.end l.from l.to) (λ u. get_or l.group u 0) (bad_in l.begin l.end l.rep l.distinct l.low l.high l.from l.to doc r) l.v l.done)
+    × ((doc : Doc) (r : Rule) → ReadyAlong doc r l.trail l.stretch l.group
+    → Looked (size l.stretch) (selected doc r) (there l.stretch) (λ u. get_or l.group u 0) (bad_in l.stretch l.asked doc r) l.v l.done)
 
 abbrev pub decreases-loop-v : goal.decreases-loop-v
-decreases-loop-v l = length l.begin - l.v
+decreases-loop-v l = size l.stretch - l.v

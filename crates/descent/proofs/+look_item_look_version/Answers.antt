@@ -12,23 +12,23 @@ look_item-returns-then-levels-eq0 t c =
 pub look_item-returns-then-past-eq0 : goal.look_item-returns-then-past-eq0
 look_item-returns-then-past-eq0 t c =
     let x = c.args in
-    λ doc l w. look_lost l x.d x.levels x.i x.seen.now w _ (c.current-past.ensures doc _ _ l) c.if-past-eq0.true
+    λ doc l w. look_lost l x.d x.levels x.i x.seen.now w _ (c.current-past.ensures doc l) c.if-past-eq0.true
 
 pub look_item-bounds-seen-past : goal.look_item-bounds-seen-past
 look_item-bounds-seen-past t c =
     let p = c.requires in
-    omega (arith, past-few p.2.1 _ _ _ (c.current-past.ensures _ _ _ p.2.1))
+    omega (arith, past-few p.2.1 _ _ _ (c.current-past.ensures _ p.2.1))
 
 pub look_item-look_version-requires : goal.look_item-look_version-requires
 look_item-look_version-requires t c =
     let p = c.requires in
-    let few = past-few p.2.1 _ _ _ (c.current-past.ensures _ _ _ p.2.1) in
+    let few = past-few p.2.1 _ _ _ (c.current-past.ensures _ p.2.1) in
     (omega arith, (omega arith, search rules, p.2))
 
 pub look_item-returns : goal.look_item-returns
 look_item-returns t c =
     let x = c.args in
-    λ doc l w. look_found l x.d x.levels x.i x.seen.now w _ (c.current-past.ensures doc _ _ l) c.if-past-eq0.false c.if-levels-eq0.false c.requires.1 _
+    λ doc l w. look_found l x.d x.levels x.i x.seen.now w _ (c.current-past.ensures doc l) c.if-past-eq0.false c.if-levels-eq0.false c.requires.1 _
     (c.look_version.ensures doc l w)
 
 pub look_version-loop-past_j-init : goal.look_version-loop-past_j-init

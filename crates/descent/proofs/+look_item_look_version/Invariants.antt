@@ -2,7 +2,7 @@
 use Rattle.std.proofs.Common.{◌≡◌, ◌+◌, ◌*◌, ◌≤◌, length}
 use Rattle.meaning.specs.Block.{limit}
 use Rattle.meaning.specs.Document.{Doc}
-use Rattle.descent.specs.Descent.{Linked}
+use Rattle.descent.specs.Links.{Links}
 use Rattle.descent.proofs.Looking.{Walked}
 use Rattle.descent.proofs.+look_item_look_version.Given as goal
 
@@ -16,8 +16,7 @@ abbrev pub invariant-look_version-loop-past_j : goal.invariant-look_version-loop
 invariant-look_version-loop-past_j l =
     (l.past_j ≤ limit)
     × (length l.seen ≡ length l.initial.seen)
-    × ((doc : Doc) → Linked doc l.version_last l.version_lower l.item_last l.item_lower l.begin l.end
-    → Walked doc l.d l.levels l.v l.initial.seen l.seen l.past_j)
+    × ((doc : Doc) → Links doc l.chains → Walked doc l.d l.levels l.v l.initial.seen l.seen l.past_j)
 
 abbrev pub decreases-look_version-loop-past_j : goal.decreases-look_version-loop-past_j
 decreases-look_version-loop-past_j l = l.past_j

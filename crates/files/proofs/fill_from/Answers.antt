@@ -25,6 +25,6 @@ loop-at-preserved g c =
     let from = c.loop-at.at in
     let room = length c.loop-at.buf - from in
     let within = c.loop-at.invariant.1 in
-    let part = stretch_put from room c.in-Bytes.n c.loop-at.buf c.one_read.new.part within (search rules) in
-    let joined = front_and_stretch from (from + c.in-Bytes.n) c.loop-at.buf (put_mid from room c.loop-at.buf c.one_read.new.part) (omega arith) (take-put_mid_below _ _ _ _ _ (le_refl _) within) in
-    (search rules, search rules, subst (Consumes _ _) (ap (λ l. take from c.loop-at.buf ++ l) (sym part) ∙ joined) (Consumes-trans _ _ _ _ _ c.loop-at.invariant.2 c.in-Bytes.ensures.taken.0))
+    let part = stretch_put from room c.in_ok-n.n c.loop-at.buf c.one_read.new.part within (search rules) in
+    let joined = front_and_stretch from (from + c.in_ok-n.n) c.loop-at.buf (put_mid from room c.loop-at.buf c.one_read.new.part) (omega arith) (take-put_mid_below _ _ _ _ _ (le_refl _) within) in
+    (search rules, search rules, subst (Consumes _ _) (ap (λ l. take from c.loop-at.buf ++ l) (sym part) ∙ joined) (Consumes-trans _ _ _ _ _ c.loop-at.invariant.2 c.in_ok-n.ensures.taken.0))

@@ -6,12 +6,12 @@ use Rattle.prepare.proofs.Filling.{filled_none, filled-store}
 use Rattle.groups.proofs.class_keys.Goals as goal
 
 pub loop-f-init : goal.loop-f-init
-loop-f-init c = (omega arith, refl, filled_none _ _)
+loop-f-init c = (refl, filled_none _ _)
 
 pub loop-f-preserved : goal.loop-f-preserved
 loop-f-preserved c =
     let s = c.loop-f in
-    (omega arith, simp length-set s.invariant.1, filled-store _ s.invariant.2 (omega arith) _ c.class_at.ensures)
+    (simp length-set s.invariant.0, filled-store _ s.invariant.1 (omega arith) _ c.class_at.ensures)
 
 pub returns : goal.returns
-returns c = let s = c.loop-f in λ f h. s.invariant.2.entry f (omega arith)
+returns c = let s = c.loop-f in λ f h. s.invariant.1.entry f (omega arith)

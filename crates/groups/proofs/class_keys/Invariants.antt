@@ -1,5 +1,4 @@
 -- `groups::class_keys` meets its contract: below f each record has the class of its key.
-use Prim.Native.Nat.{◌≤◌, ◌-◌}
 use mathlib.Core.Path.{◌≡◌}
 use lib.ListN.{length, get_or}
 use Rattle.prepare.proofs.Filling.{Filled}
@@ -7,7 +6,4 @@ use Rattle.groups.specs.Classes.{class_at}
 use Rattle.groups.proofs.class_keys.Given as goal
 
 abbrev pub invariant-loop-f : goal.invariant-loop-f
-invariant-loop-f l = (l.f ≤ l.n) × (length l.out ≡ length l.initial.out) × Filled (λ k x. x ≡ class_at l.groups l.n (get_or l.key k 0)) l.f l.out
-
-abbrev pub decreases-loop-f : goal.decreases-loop-f
-decreases-loop-f l = l.n - l.f
+invariant-loop-f l = (length l.out ≡ length l.initial.out) × Filled (λ k x. x ≡ class_at l.groups l.n (get_or l.key k 0)) l.f l.out

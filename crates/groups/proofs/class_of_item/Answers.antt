@@ -5,17 +5,17 @@ use Rattle.groups.proofs.class_of_item.Goals as goal
 pub namesake-j-requires : goal.namesake-j-requires
 namesake-j-requires c =
     let p = c.requires in
-    let tw = p.1 in
-    (p.0.item, p.3, p.5, record { room = tw.room; key = tw.key; same = tw.same; steps = tw.steps })
+    let tw = p.0.twins in
+    (p.0.nested.item, p.2, p.4, record { room = tw.room; key = tw.key; same = tw.same; steps = tw.steps })
 
 pub returns-then-j-i : goal.returns-then-j-i
 returns-then-j-i c =
-    let x = c.args in
+    let x = c.args.nest.records in
     let p = c.requires in
-    class-by x.kind.now x.parent.now x.item.now _ p.3 p.5 _ c.namesake-j.ensures _ p.4 c.if-j-i.true
+    class-by x.kind.now x.parent.now x.item.now _ p.2 p.4 _ c.namesake-j.ensures _ p.3 c.if-j-i.true
 
 pub returns : goal.returns
 returns c =
-    let x = c.args in
+    let x = c.args.nest.records in
     let p = c.requires in
-    class-own x.kind.now x.parent.now x.item.now _ p.3 p.5 _ c.namesake-j.ensures c.if-j-i.false
+    class-own x.kind.now x.parent.now x.item.now _ p.2 p.4 _ c.namesake-j.ensures c.if-j-i.false

@@ -7,10 +7,10 @@ use Rattle.groups.proofs.group.Goals as goal
 
 pub classes-requires : goal.classes-requires
 classes-requires c =
-    let a = c.args in
+    let a = c.args.records in
     let p = c.requires in
     let n = nested_of _ _ _ _ p.1 p.2 in
-    (n, twins_of a.kind.now [] a.parent.now [] [] a.item.now _ _ _ _ n.item c.buckets-key.ensures c.chain-items.ensures)
+    record { nested = n; twins = twins_of a.kind.now [] a.parent.now [] [] a.item.now _ _ _ _ n.item c.buckets-key.ensures c.chain-items.ensures }
 
 pub returns : goal.returns
 returns c =

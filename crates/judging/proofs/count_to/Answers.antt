@@ -10,8 +10,7 @@ count_changes-requires c =
     let p = c.requires in
     let w = p.2.2 in
     let t = p.2.3 in (
-      walkable t.by_begin w.begin t.own_read.room t.held_room,
-      walkable t.by_end w.end t.own_read.room t.held_room,
+      (walkable t.by_begin w.begin t.own_read.room t.held_room, walkable t.by_end w.end t.own_read.room t.held_room),
       p.0 (eq-eqb _ 0 c.if-r-eq0.true),
     )
 
@@ -19,7 +18,8 @@ pub returns-then-r-eq0 : goal.returns-then-r-eq0
 returns-then-r-eq0 c =
     let mode = c.if-r-eq0.true in
     λ doc q w t.
-    counts-days doc q _ _ _ (eq-eqb _ 0 mode) (c.count_changes.ensures doc q _ w t.by_begin t.by_end t.own_read refl t.held_read refl)
+    counts-days doc q _ _ _ (eq-eqb _ 0 mode) (c.count_changes.ensures doc q _
+    (record { periods = w; by_begin = t.by_begin; by_end = t.by_end; own_read = t.own_read; refers = refl; referred_read = t.held_read }) refl)
 
 pub returns : goal.returns
 returns c = λ doc q w t. counts-windows doc q _ _ _ (ne_eqb _ 0 c.if-r-eq0.false)

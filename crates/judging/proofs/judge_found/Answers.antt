@@ -7,18 +7,20 @@ pub soonest_place-first-requires : goal.soonest_place-first-requires
 soonest_place-first-requires c =
     let p = c.requires in
     let g = p.2 in
-    (c.starts-table.ensures, p.0, (g.0, _, given _ _ _ g.1 (λ e. refl) (λ e. (p.1 e).1) g.3 g.4 g.2 c.places_of-at.ensures.1))
+    let s = g.1 in
+    (c.starts-table.ensures, p.0, (g.0, _, given _ _ _ s.known (λ e. refl) (λ e. (p.1 e).1) s.opened g.2 s.represents c.places_of-at.ensures.1))
 
 pub stop_from-stop-requires : goal.stop_from-stop-requires
 stop_from-stop-requires c =
     let p = c.requires in
-    (c.starts-table.ensures, p.0, c.places_of-at.ensures.0, c.places_of-at.ensures.1, p.1, (p.2.0, p.2.1, p.2.2))
+    (c.starts-table.ensures, p.0, c.places_of-at.ensures.0, c.places_of-at.ensures.1, p.1, (p.2.0, p.2.1.known, p.2.1.represents))
 
 pub tell-verdict-requires : goal.tell-verdict-requires
 tell-verdict-requires c =
     let p = c.requires in
     let g = p.2 in
-    let k = g.1 in (
+    let s = g.1 in
+    let k = s.known in (
       p.0,
       c.places_of-at.ensures.0,
       c.places_of-at.ensures.1,
@@ -28,15 +30,16 @@ tell-verdict-requires c =
         c.soonest_place-first.result,
         k.periods,
         k.judgeable,
-        traced _ _ _ k (λ e. refl) (λ e. (p.1 e).1) g.3 g.4,
-        c.stop_from-stop.ensures g.0 c.args.q k g.2 (λ e. refl),
+        traced _ _ _ k (λ e. refl) (λ e. (p.1 e).1) s.opened g.2,
+        c.stop_from-stop.ensures g.0 c.args.q k s.represents (λ e. refl),
       ),
     )
 
 pub returns : goal.returns
 returns c =
-    λ doc p k v o x e.
+    λ doc p s x e.
+    let k = s.known in
     c.tell-verdict.ensures doc p _ k.periods k.judgeable
-    (traced p c.args.q _ k e (λ f. (c.requires.1 f).1) o x)
-    (c.soonest_place-first.ensures doc p (given p c.args.q _ k e (λ f. (c.requires.1 f).1) o x v c.places_of-at.ensures.1))
-    (c.stop_from-stop.ensures doc p k v e)
+    (traced p c.args.q _ k e (λ f. (c.requires.1 f).1) s.opened x)
+    (c.soonest_place-first.ensures doc p (given p c.args.q _ k e (λ f. (c.requires.1 f).1) s.opened x s.represents c.places_of-at.ensures.1))
+    (c.stop_from-stop.ensures doc p k s.represents e)

@@ -7,7 +7,7 @@ judge_columns-requires c =
     let p = c.requires in
     let f = p.2.0 in
     let s = p.2.1 in
-    (p.0, p.1, (f.doc, known f.whole s, s.represents, opened f.whole s))
+    (p.0, p.1, (f.doc, record { known = known f.whole s; represents = s.represents; opened = opened f.whole s }))
 
 pub returns : goal.returns
-returns c = λ doc p w s e. c.judge_columns.ensures doc p (known w s) s.represents (opened w s) e
+returns c = λ doc p w s e. c.judge_columns.ensures doc p (record { known = known w s; represents = s.represents; opened = opened w s }) e

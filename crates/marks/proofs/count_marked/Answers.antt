@@ -1,5 +1,4 @@
 -- `marks::count_marked` meets its contract: what is counted so far and what is left make up the whole.
-use Prim.Native.Nat.{◌-◌}
 use native.Mathlib.Omega.{arith}
 use borrow.Author.Rules.{rules}
 use Rattle.marks.proofs.After.{after_less}

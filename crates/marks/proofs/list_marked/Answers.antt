@@ -1,5 +1,4 @@
 -- `marks::list_marked` meets its contract: what is left to store from the k-th entry on completes the list.
-use Prim.Native.Nat.{◌-◌}
 use native.Mathlib.Omega.{arith}
 use Rattle.marks.proofs.After.{after_less}
 use Rattle.marks.proofs.Storing.{filling_start, filling_room, filling_more, filling_end}

@@ -1,6 +1,5 @@
 -- `marks::next_marked` meets its contract: the next marked number from i on is the next one from `from` on.
 use mathlib.Core.Path.{refl, sym, ◌∙◌}
-use Prim.Native.Nat.{◌-◌}
 use native.Mathlib.Omega.{arith}
 use borrow.Author.Tests.{eq-eqb, ne_eqb}
 use Rattle.marks.proofs.After.{after-here, after_next, after-end}

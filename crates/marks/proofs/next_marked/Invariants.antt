@@ -6,6 +6,3 @@ use Rattle.marks.proofs.next_marked.Given as goal
 
 abbrev pub invariant-loop-i : goal.invariant-loop-i
 invariant-loop-i l = after (marked l.marks) l.i l.to ≡ after (marked l.marks) l.from l.to
-
-abbrev pub decreases-loop-i : goal.decreases-loop-i
-decreases-loop-i l = l.to - l.i

@@ -6,13 +6,13 @@ use Rattle.nodes.proofs.Blanks.{blank-front, unpacks_none, unpacks_all}
 use borrow.Author.Rules.{rules}
 use Rattle.nodes.proofs.read_into.Goals as goal
 
-pub returns-in_default : goal.returns-in_default
-returns-in_default c =
-    let b = c.node_blocks-blocks.ensures in
-    unpacks_none c.args.image.now (sym b ∙ c.in_default.is) b 0 c.told.ensures c.requires
+pub returns-in_err-node_blocks : goal.returns-in_err-node_blocks
+returns-in_err-node_blocks c =
+    let b = c.node_blocks.ensures in
+    unpacks_none c.args.image.now (sym b ∙ c.in_err-node_blocks.was) b 0 (search (rules, c.from_residual.ensures, c.in_err-node_blocks.was)) c.requires
 
 pub count_records-n-requires : goal.count_records-n-requires
-count_records-n-requires c = record { fair = search rules; accepted = sym c.node_blocks-blocks.ensures ∙ c.in-Accepted.is }
+count_records-n-requires c = record { fair = search rules; accepted = sym c.node_blocks.ensures ∙ c.in_ok-node_blocks.was }
 
 pub unpack-requires : goal.unpack-requires
 unpack-requires c =
@@ -30,8 +30,8 @@ unpack-requires c =
       item = omega (arith, n.few, f.item);
     }
 
-pub fill_pairs-requires : goal.fill_pairs-requires
-fill_pairs-requires c =
+pub fill-requires : goal.fill-requires
+fill-requires c =
     let n = c.count_records-n.ensures in
     record { inside = n.inside; in_record = omega arith; fits = omega (arith, n.few, (blank-front c.requires).spare) }
 
@@ -49,13 +49,13 @@ accept_front-read-requires c =
       end = filled-room _ n.result _ _ u.end;
       value = filled-room _ n.result _ _ u.value;
       item = filled-room _ n.result _ _ u.item;
-      spare = filled-room _ n.result _ _ c.fill_pairs.ensures;
+      spare = filled-room _ n.result _ _ c.fill.ensures;
     }
 
 pub returns : goal.returns
 returns c =
     let n = c.count_records-n in
-    let blocks = c.node_blocks-blocks.ensures in
+    let blocks = c.node_blocks.ensures in
     let u = c.unpack.ensures in
-    unpacks_all c.args.image.now (sym blocks ∙ c.in-Accepted.is) n.result n.ensures.count c.requires
-    u.kind u.vkind u.name u.parent u.begin u.end u.value u.item c.fill_pairs.ensures c.accept_front-read.ensures c.told-2.ensures
+    unpacks_all c.args.image.now (sym blocks ∙ c.in_ok-node_blocks.was) n.result n.ensures.count c.requires
+    u.kind u.vkind u.name u.parent u.begin u.end u.value u.item c.fill.ensures c.accept_front-read.ensures c.told.ensures

@@ -4,4 +4,4 @@ use Rattle.opening.proofs.after_rules.Goals as goal
 
 pub returns : goal.returns
 returns c =
-    table-told _ c.in-Nodes.is c.read_rules.result c.read_rules.ensures c.told.ensures
+    table-told _ c.in_ok-n.was c.read_rules.result c.read_rules.ensures c.told.ensures

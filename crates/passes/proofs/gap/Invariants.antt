@@ -1,12 +1,6 @@
 -- `passes::gap` meets its contract: each turn takes a record as a demand, then as a supply.
-use Prim.Native.Nat.{◌≤◌, ◌-◌}
-use mathlib.Core.Path.{◌≡◌}
-use lib.ListN.{length}
 use Rattle.passes.proofs.Gapping.{Met}
 use Rattle.passes.proofs.gap.Given as goal
 
-abbrev pub invariant-loop-i : goal.invariant-loop-i
-invariant-loop-i l = (l.i ≤ length l.order) × (length l.reach ≡ length l.initial.reach) × (length l.need ≡ length l.initial.need) × Met l.order l.lo l.demand l.dhi l.supply l.shi l.room l.i l.d l.reach l.need
-
-abbrev pub decreases-loop-i : goal.decreases-loop-i
-decreases-loop-i l = length l.order - l.i
+abbrev pub invariant-loop-number : goal.invariant-loop-number
+invariant-loop-number l = Met l.order l.demands.lo.now l.demands.key.now l.demands.hi.now l.supply l.shi l.room l.number-index l.d l.reach l.need

@@ -1,11 +1,6 @@
 -- `passes::least` meets its contract: the first record that has a key and is ever present has the least place.
-use Prim.Native.Nat.{◌≤◌, ◌-◌}
-use lib.ListN.{length}
 use Rattle.passes.proofs.Nevers.{Never}
 use Rattle.passes.proofs.least.Given as goal
 
-abbrev pub invariant-loop-i : goal.invariant-loop-i
-invariant-loop-i l = (l.i ≤ length l.order) × Never l.order l.key l.lo l.hi l.room l.i
-
-abbrev pub decreases-loop-i : goal.decreases-loop-i
-decreases-loop-i l = length l.order - l.i
+abbrev pub invariant-loop-number : goal.invariant-loop-number
+invariant-loop-number l = Never l.order l.spans.key.now l.spans.lo.now l.spans.hi.now l.room l.number-index

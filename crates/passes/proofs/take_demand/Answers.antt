@@ -5,4 +5,4 @@ use Rattle.passes.proofs.take_demand.Goals as goal
 
 pub returns : goal.returns
 returns c =
-    demand-taken _ _ _ _ c.index-k.ensures (omega arith) (omega arith) _ _ _ _ _ c.raised.ensures c.later.ensures
+    demand-taken _ _ _ _ c.index-k.ensures (omega arith) (omega arith) _ _ _ _ _ c.raised.ensures c.max.ensures

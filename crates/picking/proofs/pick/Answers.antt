@@ -1,37 +1,37 @@
--- `picking::pick` meets its contract: of the first i entries those that are marked stand in front. The measure is how many are left.
-use mathlib.Core.Path.{◌≡◌, refl}
+-- `picking::pick` meets its contract: of the first entries those that are marked stand in front.
+use mathlib.Core.Path.{◌≡◌}
+use Prim.Native.Nat.{◌+◌}
 use native.Mathlib.Omega.{arith}
-use lib.ListN.{length, length-set}
 use borrow.Author.Rules.{rules}
-use Rattle.passes.proofs.Cases.{fits}
-use Rattle.picking.proofs.Parts.{picked_none, picked_next, picked_most, weight_is}
+use lib.ListN.{length, set}
+use Rattle.marks.specs.Marks.{marked}
+use Rattle.passes.specs.Passes.{at}
+use Rattle.picking.specs.Picked.{Picked}
+use Rattle.picking.proofs.Parts.{picked_none, picked_next, picked_most}
+use Rattle.picking.proofs.pick.Goals.{After-from-k}
 use Rattle.picking.proofs.pick.Goals as goal
 
-pub loop-i-init : goal.loop-i-init
-loop-i-init c = (omega arith, refl, picked_none _ _ _)
+pub loop-r-init : goal.loop-r-init
+loop-r-init c = picked_none _ _ _
 
 pub offset_bounds-out-k : goal.offset_bounds-out-k
-offset_bounds-out-k c = omega (arith, picked_most _ _ c.loop-i.invariant.2)
+offset_bounds-out-k c = omega (arith, picked_most _ _ c.loop-r.invariant)
 
 pub bounds-out-k : goal.bounds-out-k
-bounds-out-k c = omega (arith, picked_most _ _ c.loop-i.invariant.2, c.requires.1)
+bounds-out-k c = omega (arith, picked_most _ _ c.loop-r.invariant, c.requires.1)
 
-pub bounds-marks-index : goal.bounds-marks-index
-bounds-marks-index c = omega (arith, fits c.requires.0 _ (omega arith) c.index.ensures)
+-- one entry more
+next : (c : After-from-k) → Picked (marked c.args.marks.now) c.args.order.now (c.loop-r.r-index + 1) (set c.loop-r.out c.loop-r.k (at c.args.order.now c.loop-r.r-index)) (c.loop-r.k + c.from-k.result)
+next c = picked_next _ _ _ _ _ _ c.loop-r.invariant (omega (arith, picked_most _ _ c.loop-r.invariant, c.requires.1)) (rw c.index.ensures at c.from-k.ensures)
 
 pub overflow_add-k : goal.overflow_add-k
-overflow_add-k c = omega (arith, picked_most _ _ c.loop-i.invariant.2, c.weight-k.ensures.0)
+overflow_add-k c = omega (arith, picked_most _ _ (next (goal.at.overflow_add-k c).After-from-k))
 
-pub loop-i-preserved : goal.loop-i-preserved
-loop-i-preserved c =
-    let s = c.loop-i in (
-      search rules,
-      simp length-set s.invariant.1,
-      picked_next _ _ _ _ _ _ s.invariant.2 (omega (arith, picked_most _ _ s.invariant.2, c.requires.1)) (weight_is c.args.marks.now _ s.i c.args.order.now _ c.index.ensures c.weight-k.ensures.1),
-    )
+pub loop-r-preserved : goal.loop-r-preserved
+loop-r-preserved c = next (goal.at.loop-r-preserved c).After-from-k
 
 pub returns : goal.returns
 returns c =
-    let s = c.loop-i in
-    let all : s.i ≡ length c.args.order.now = omega arith in
-    (s.invariant.1, omega (arith, picked_most _ _ s.invariant.2, c.requires.1), rw all at s.invariant.2)
+    let s = c.loop-r in
+    let all : s.r-index ≡ length c.args.order.now = omega arith in
+    (search rules, omega (arith, picked_most _ _ s.invariant, c.requires.1), rw all at s.invariant)

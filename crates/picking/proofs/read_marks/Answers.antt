@@ -1,18 +1,18 @@
--- `picking::read_marks` meets its contract: below i each record has its mark. The measure is how many are left.
-use mathlib.Core.Path.{refl}
-use native.Mathlib.Omega.{arith}
-use lib.ListN.{length-set}
+-- `picking::read_marks` meets its contract: below i each record has its mark.
+use mathlib.Core.Path.{◌≡◌, refl}
+use mathlib.Core.Bool.{Bool, true, false}
 use borrow.Author.Rules.{rules}
-use Rattle.prepare.proofs.Filling.{filled_none, filled-store, filled-marks}
+use lib.Dec.{eqb}
+use Rattle.std.specs.Int.{from_bool}
+use Rattle.prepare.proofs.Filling.{filled-store}
 use Rattle.picking.specs.Picked.{is_read}
 use Rattle.picking.proofs.read_marks.Goals as goal
 
-pub loop-i-init : goal.loop-i-init
-loop-i-init c = (omega arith, refl, filled_none _ _)
+-- the mark of a test is 1 exactly when it passed
+mark_is : (b : Bool) → eqb (from_bool b) 1 ≡ b
+mark_is true = refl
+mark_is false = refl
 
 pub loop-i-preserved : goal.loop-i-preserved
 unfolding is_read
-loop-i-preserved c = let s = c.loop-i in (omega arith, simp length-set s.invariant.1, filled-store _ s.invariant.2 (search rules) _ c.mark_of.ensures)
-
-pub returns : goal.returns
-returns c = let s = c.loop-i in filled-marks _ _ _ _ s.invariant.2 (omega arith) (search rules)
+loop-i-preserved c = filled-store _ c.loop-i.invariant (search rules) _ (rw c.from.ensures (mark_is _))

@@ -5,4 +5,4 @@ use Rattle.pieces.proofs.sole.Goals as goal
 
 pub returns : goal.returns
 returns c =
-    stretched _ _ _ _ _ _ _ _ _ c.draw.ensures c.cut.ensures (search rules) (search rules) (search rules)
+    stretched _ _ _ _ _ _ _ _ _ c.draw-stretches.ensures c.cut.ensures (search rules) (search rules) (search rules)

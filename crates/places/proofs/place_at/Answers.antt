@@ -23,7 +23,7 @@ unfolding start_of end_of
 returns c =
     record {
       from = c.unit_day-from.ensures;
-      to = clipped _ _ _ _ c.unit_day-past.ensures c.lesser-to.ensures;
+      to = clipped _ _ _ _ c.unit_day-past.ensures c.min-to.ensures;
       number = refl;
       shortened = refl;
     }

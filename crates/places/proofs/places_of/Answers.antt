@@ -27,21 +27,21 @@ pub returns-then-rule-eq1 : goal.returns-then-rule-eq1
 returns-then-rule-eq1 c =
     (windows-placed _ c.requires.1 c.if-rule-eq0.false c.if-rule-eq1.true c.counted-then-rule-eq1.ensures.0, c.counted-then-rule-eq1.ensures.1)
 
-pub counted-requires-in-Number : goal.counted-requires-in-Number
-counted-requires-in-Number c =
+pub counted-requires-in-Some : goal.counted-requires-in-Some
+counted-requires-in-Some c =
     let p = c.requires in
-    (p.0, months_small _ p.1 c.if-rule-eq0-2.false c.if-rule-eq1.false c.month_in.ensures c.in-Number.is)
+    (p.0, months_small _ p.1 c.if-rule-eq0-2.false c.if-rule-eq1.false c.month_in.ensures c.in-Some.is)
 
-pub counted-requires-in-Absent : goal.counted-requires-in-Absent
-counted-requires-in-Absent c =
+pub counted-requires-in-None : goal.counted-requires-in-None
+counted-requires-in-None c =
     let p = c.requires in
-    absurd (month_there _ p.1 c.if-rule-eq0-2.false c.if-rule-eq1.false c.month_in.ensures c.in-Absent.is)
+    absurd (month_there _ p.1 c.if-rule-eq0-2.false c.if-rule-eq1.false c.month_in.ensures c.in-None.is)
 
-pub returns-in-Number : goal.returns-in-Number
-returns-in-Number c =
-    (months_placed _ c.requires.1 c.if-rule-eq0-2.false c.if-rule-eq1.false c.if-rule-eq0.false c.month_in.ensures c.in-Number.is c.counted-in-Number.ensures.0, c.counted-in-Number.ensures.1)
+pub returns-in-Some : goal.returns-in-Some
+returns-in-Some c =
+    (months_placed _ c.requires.1 c.if-rule-eq0-2.false c.if-rule-eq1.false c.if-rule-eq0.false c.month_in.ensures c.in-Some.is c.counted-in-Some.ensures.0, c.counted-in-Some.ensures.1)
 
-pub returns-in-Absent : goal.returns-in-Absent
-returns-in-Absent c =
+pub returns-in-None : goal.returns-in-None
+returns-in-None c =
     let p = c.requires in
-    absurd (month_there _ p.1 c.if-rule-eq0-2.false c.if-rule-eq1.false c.month_in.ensures c.in-Absent.is)
+    absurd (month_there _ p.1 c.if-rule-eq0-2.false c.if-rule-eq1.false c.month_in.ensures c.in-None.is)

@@ -2,12 +2,11 @@
 use mathlib.Core.Path.{refl}
 use native.Mathlib.Omega.{arith}
 use borrow.Author.Rules.{rules}
-use lib.ListN.{length-set}
 use Rattle.prepare.proofs.Owning.{sifting_none, sifting_on, sifting_all}
 use Rattle.prepare.proofs.sift.Goals as goal
 
 pub loop-i-init : goal.loop-i-init
-loop-i-init c = (omega arith, refl, refl, refl, λ doc t v. sifting_none doc _ _ _ _)
+loop-i-init c = λ doc t v. sifting_none doc _ _ _ _
 
 pub role_of-role-requires : goal.role_of-role-requires
 role_of-role-requires c =
@@ -17,10 +16,10 @@ role_of-role-requires c =
         doc = g.0;
         tree = g.1;
         judgeable = g.3;
-        here = c.loop-i-test.true;
+        here = omega arith;
         room = search rules;
         short = p.0;
-        few = λ w h. ((c.loop-i.invariant.4 g.0 g.1 g.2).passed.entry w h).most;
+        few = λ w h. ((c.loop-i.invariant g.0 g.1 g.2).passed.entry w h).most;
       },
       omega (arith, g.1.kind.size, g.2.vkind.size),
       omega (arith, g.1.kind.size, g.2.value.size),
@@ -28,15 +27,10 @@ role_of-role-requires c =
 
 pub loop-i-preserved : goal.loop-i-preserved
 loop-i-preserved c =
-    let s = c.loop-i in (
-      omega arith,
-      simp length-set s.invariant.1,
-      simp length-set s.invariant.2,
-      simp length-set s.invariant.3,
-      λ doc t v. let f = s.invariant.4 doc t v in sifting_on doc _ f (search rules) (search rules) (search rules) _ _ _ (c.role_of-role.ensures doc t v refl f.passed.entry),
-    )
+    let s = c.loop-i in
+    λ doc t v. let f = s.invariant doc t v in sifting_on doc _ f (search rules) (search rules) (search rules) _ _ _ (c.role_of-role.ensures doc t v refl f.passed.entry)
 
 pub returns : goal.returns
 returns c =
     let s = c.loop-i in
-    λ doc t v. let n = t.kind.size in sifting_all doc _ _ _ _ _ (s.invariant.4 doc t v) (omega arith) (omega arith) (omega arith) (omega arith)
+    λ doc t v. let n = t.kind.size in sifting_all doc _ _ _ _ _ (s.invariant doc t v) (omega arith) (omega arith) (omega arith) (omega arith)

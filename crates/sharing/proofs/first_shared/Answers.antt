@@ -13,21 +13,21 @@ use Rattle.sharing.proofs.first_shared.Goals as goal
 pub loop-v-init : goal.loop-v-init
 loop-v-init c =
     let none = c.requires.5.none in
-    (refl, λ doc r held. shared_start _ _ _ _ _ _ _ _ (laid _ _ _ _ _ _ _ _ _ held).starts _ none)
+    (refl, λ doc r held. shared_start _ _ _ _ _ _ _ _ (laid held).starts _ none)
 
 pub row_shares-requires : goal.row_shares-requires
 row_shares-requires c =
     let p = c.requires in
     let s = c.loop-v in
     let h = c.loop-v-test.true in
-    let n = sized _ _ _ _ _ _ _ _ _ p.2 in record {
+    let n = sized p.2 in record {
       rooms = (
         h,
-        fits _ _ _ _ _ _ _ _ _ p.2 _ (omega (arith, s.invariant.0, p.5.room)),
+        fits p.2 _ (omega (arith, s.invariant.0, p.5.room)),
         omega (arith, n, p.3.room),
         omega (arith, p.3.low s.v (omega (arith, h, n)), p.4),
       );
-      chain = (in_row p.0 p.1 s.v, ((laid _ _ _ _ _ _ _ _ _ p.2).chains s.v h ((s.invariant.1 p.0 p.1 p.2).come.is_chosen h)));
+      chain = (in_row p.0 p.1 s.v, ((laid p.2).chains s.v h ((s.invariant.1 p.0 p.1 p.2).come.is_chosen h)));
     }
 
 pub returns-then-row_shares : goal.returns-then-row_shares
@@ -36,19 +36,19 @@ returns-then-row_shares c =
     let h = c.loop-v-test.true in
     λ doc q r w held grouped sequenced e i kinds.
     let k = s.invariant.1 doc r held in
-    shared_answer _ _ _ _ _ _ _ _ _ doc q r w held (λ f. low-wants doc r f (⊎_elim (λ k. omega (arith, k.0)) (λ k. omega (arith, k.0)) kinds)) e i _ grouped _ kinds
-    (shared_found _ _ _ _ _ _ _ _ _ k h _ _ (c.row_shares.ensures (in_row doc r s.v) ((laid _ _ _ _ _ _ _ _ _ held).chains s.v h (k.come.is_chosen h))) c.if-row_shares.true)
+    shared_answer c.args.trail c.args.stretch doc q r w held (λ f. low-wants doc r f (⊎_elim (λ k. omega (arith, k.0)) (λ k. omega (arith, k.0)) kinds)) e i _ grouped _ kinds
+    (shared_found _ _ _ _ _ _ _ _ _ k h _ _ (c.row_shares.ensures (in_row doc r s.v) ((laid held).chains s.v h (k.come.is_chosen h))) c.if-row_shares.true)
 
-pub offset_bounds-next-v : goal.offset_bounds-next-v
-offset_bounds-next-v c =
-    omega (arith, next-room _ _ _ _ _ _ _ _ _ c.requires.2)
+pub offset_bounds-trail-v : goal.offset_bounds-trail-v
+offset_bounds-trail-v c =
+    omega (arith, next-room c.requires.2)
 
-pub bounds-next-v : goal.bounds-next-v
-bounds-next-v c = omega (arith, next-room _ _ _ _ _ _ _ _ _ c.requires.2)
+pub bounds-trail-v : goal.bounds-trail-v
+bounds-trail-v c = omega (arith, next-room c.requires.2)
 
 pub loop-v-smaller : goal.loop-v-smaller
 loop-v-smaller c =
-    next_more _ _ _ _ _ _ _ _ _ c.requires.2 _ c.loop-v-test.true _ c.index-v.ensures
+    next_more c.requires.2 _ c.loop-v-test.true _ c.index-v.ensures
 
 pub loop-v-preserved : goal.loop-v-preserved
 loop-v-preserved c =
@@ -57,11 +57,11 @@ loop-v-preserved c =
       search rules,
       λ doc r held.
           let k = s.invariant.1 doc r held in
-          shared_step _ _ _ _ _ _ _ _ _ k h _ _ (c.row_shares.ensures (in_row doc r s.v) ((laid _ _ _ _ _ _ _ _ _ held).chains s.v h (k.come.is_chosen h))) c.if-row_shares.false (omega arith) _ (next_of _ _ _ _ _ _ _ _ _ held s.v h _ c.index-v.ensures),
+          shared_step _ _ _ _ _ _ _ _ _ k h _ _ (c.row_shares.ensures (in_row doc r s.v) ((laid held).chains s.v h (k.come.is_chosen h))) c.if-row_shares.false (omega arith) _ (next_of held s.v h _ c.index-v.ensures),
     )
 
 pub returns : goal.returns
 returns c =
     λ doc q r w held grouped sequenced e i kinds.
-    shared_answer _ _ _ _ _ _ _ _ _ doc q r w held (λ f. low-wants doc r f (⊎_elim (λ k. omega (arith, k.0)) (λ k. omega (arith, k.0)) kinds)) e i _ grouped _ kinds
+    shared_answer c.args.trail c.args.stretch doc q r w held (λ f. low-wants doc r f (⊎_elim (λ k. omega (arith, k.0)) (λ k. omega (arith, k.0)) kinds)) e i _ grouped _ kinds
     (shared_end _ _ _ _ _ _ _ _ _ (c.loop-v.invariant.1 doc r held) c.loop-v-test.false)

@@ -6,15 +6,14 @@ use Rattle.meaning.specs.declared.Rule.{Rule}
 use Rattle.meaning.specs.Document.{Doc}
 use Rattle.meaning.specs.Select.{selected}
 use Rattle.prepare.specs.Rows.{in_row}
-use Rattle.day.specs.Ready.{Ready}
-use Rattle.sharing.specs.Row.{during}
+use Rattle.day.specs.Along.{size, there, stands, ReadyAlong}
 use Rattle.sharing.proofs.Walking.{Shared}
 use Rattle.sharing.proofs.first_shared.Given as goal
 
 abbrev pub invariant-loop-v : goal.invariant-loop-v
 invariant-loop-v l = (length l.owner ≡ length l.initial.owner)
-    × ((doc : Doc) (r : Rule) → Ready doc r l.start l.next l.last l.lower l.begin l.end l.rep
-    → Shared (during l.begin l.end l.from l.to) (length l.begin) (λ f. get_or l.rep f 0) (selected doc r) (in_row doc r) (λ u. get_or l.group u 0 + 1) l.needy l.v l.owner)
+    × ((doc : Doc) (r : Rule) → ReadyAlong doc r l.trail l.stretch
+    → Shared (there l.stretch) (size l.stretch) (stands l.stretch) (selected doc r) (in_row doc r) (λ u. get_or l.group u 0 + 1) l.needy l.v l.owner)
 
 abbrev pub decreases-loop-v : goal.decreases-loop-v
-decreases-loop-v l = length l.begin - l.v
+decreases-loop-v l = size l.stretch - l.v

@@ -10,27 +10,27 @@ use Rattle.sharing.proofs.mark_rows.Goals as goal
 pub loop-v-init : goal.loop-v-init
 loop-v-init c =
     let none = c.requires.3.none in
-    (refl, λ doc r held. told-start _ _ _ _ _ _ (laid _ _ _ _ _ _ _ _ _ held).starts _ none)
+    (refl, λ doc r held. told-start _ _ _ _ _ _ (laid held).starts _ none)
 
 pub mark_row-requires : goal.mark_row-requires
 mark_row-requires c =
     let p = c.requires in
     let s = c.loop-v in
     let h = c.loop-v-test.true in record {
-      rooms = (h, fits _ _ _ _ _ _ _ _ _ p.2 _ (omega (arith, s.invariant.0, p.3.room)));
-      chain = (in_row p.0 p.1 s.v, ((laid _ _ _ _ _ _ _ _ _ p.2).chains s.v h ((s.invariant.1 p.0 p.1 p.2).come.is_chosen h)));
+      rooms = (h, fits p.2 _ (omega (arith, s.invariant.0, p.3.room)));
+      chain = (in_row p.0 p.1 s.v, ((laid p.2).chains s.v h ((s.invariant.1 p.0 p.1 p.2).come.is_chosen h)));
     }
 
-pub offset_bounds-next-v : goal.offset_bounds-next-v
-offset_bounds-next-v c =
-    omega (arith, next-room _ _ _ _ _ _ _ _ _ c.requires.2)
+pub offset_bounds-trail-v : goal.offset_bounds-trail-v
+offset_bounds-trail-v c =
+    omega (arith, next-room c.requires.2)
 
-pub bounds-next-v : goal.bounds-next-v
-bounds-next-v c = omega (arith, next-room _ _ _ _ _ _ _ _ _ c.requires.2)
+pub bounds-trail-v : goal.bounds-trail-v
+bounds-trail-v c = omega (arith, next-room c.requires.2)
 
 pub loop-v-smaller : goal.loop-v-smaller
 loop-v-smaller c =
-    next_more _ _ _ _ _ _ _ _ _ c.requires.2 _ c.loop-v-test.true _ c.index-v.ensures
+    next_more c.requires.2 _ c.loop-v-test.true _ c.index-v.ensures
 
 pub loop-v-preserved : goal.loop-v-preserved
 loop-v-preserved c =
@@ -39,7 +39,7 @@ loop-v-preserved c =
       search rules,
       λ doc r held.
           let k = s.invariant.1 doc r held in
-          told-step _ _ _ _ _ _ _ k h _ (c.mark_row.ensures (in_row doc r s.v) ((laid _ _ _ _ _ _ _ _ _ held).chains s.v h (k.come.is_chosen h))) _ (next_of _ _ _ _ _ _ _ _ _ held s.v h _ c.index-v.ensures),
+          told-step _ _ _ _ _ _ _ k h _ (c.mark_row.ensures (in_row doc r s.v) ((laid held).chains s.v h (k.come.is_chosen h))) _ (next_of held s.v h _ c.index-v.ensures),
     )
 
 pub returns : goal.returns

@@ -1,19 +1,18 @@
 -- `sharing::mark_rows` meets its contract: for every document that the lists hold, the marks tell the values of the rows below v.
 use Prim.Native.Nat.{◌-◌}
 use mathlib.Core.Path.{◌≡◌}
-use lib.ListN.{length, get_or}
+use lib.ListN.{length}
 use Rattle.meaning.specs.declared.Rule.{Rule}
 use Rattle.meaning.specs.Document.{Doc}
 use Rattle.meaning.specs.Select.{selected}
 use Rattle.prepare.specs.Rows.{in_row}
-use Rattle.day.specs.Ready.{Ready}
-use Rattle.sharing.specs.Row.{during}
+use Rattle.day.specs.Along.{size, there, stands, ReadyAlong}
 use Rattle.sharing.proofs.Walking.{Told}
 use Rattle.sharing.proofs.mark_rows.Given as goal
 
 abbrev pub invariant-loop-v : goal.invariant-loop-v
 invariant-loop-v l = (length l.seen ≡ length l.initial.seen)
-    × ((doc : Doc) (r : Rule) → Ready doc r l.start l.next l.last l.lower l.begin l.end l.rep → Told (during l.begin l.end l.from l.to) (length l.begin) (λ f. get_or l.rep f 0) (selected doc r) (in_row doc r) l.v l.seen)
+    × ((doc : Doc) (r : Rule) → ReadyAlong doc r l.trail l.stretch → Told (there l.stretch) (size l.stretch) (stands l.stretch) (selected doc r) (in_row doc r) l.v l.seen)
 
 abbrev pub decreases-loop-v : goal.decreases-loop-v
-decreases-loop-v l = length l.begin - l.v
+decreases-loop-v l = size l.stretch - l.v

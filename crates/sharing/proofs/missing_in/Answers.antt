@@ -19,5 +19,5 @@ pub returns : goal.returns
 returns c =
     let held = c.mark_rows.ensures in
     λ doc q r w ready referred sequenced kind e i.
-    missing_answer _ _ _ _ _ _ _ _ _ doc q r w ready (λ f. low-wants doc r f (omega arith)) e i _ _ _ _ referred kind _ (held doc q referred.ready)
+    missing_answer c.args.own c.args.stretch doc q r w ready (λ f. low-wants doc r f (omega arith)) e i c.args.held referred kind _ (held doc q referred.ready)
     (c.first_missing.ensures doc r ready)

@@ -1,4 +1,6 @@
 -- `soonest::soonest` meets its contract: the rule is a datatype in windows, or it is none.
+use Prim.Native.Nat.{◌≤◌}
+use native.Mathlib.Omega.{arith}
 use Rattle.soonest.proofs.Lining.{stepped, unstepped}
 use Rattle.soonest.proofs.Spoiling.{unspoilt_sooner, nilled}
 use Rattle.soonest.proofs.soonest.Goals as goal
@@ -21,7 +23,8 @@ soonest_nil-requires c = let p = c.requires in (p.0, (p.2.0, nilled p.2.2))
 pub returns : goal.returns
 returns c =
     let z = c.args.rule in
-    let lower = c.sooner.ensures in
+    let sooner : c.min.result ≤ c.sweeping-swept.result = omega (arith, c.min.ensures) in
+    let sooner' : c.min.result ≤ c.soonest_nil.result = omega (arith, c.min.ensures) in
     λ doc q g.
-    c.sweeping-swept.ensures doc q _ _ g (unstepped z.windowed z.kind c.if-rule.false) _ lower.0
-    (unspoilt_sooner doc _ _ _ _ lower.1 (c.soonest_nil.ensures doc (nilled g)))
+    c.sweeping-swept.ensures doc q _ _ g (unstepped z.windowed z.kind c.if-rule.false) _ sooner
+    (unspoilt_sooner doc _ _ _ _ sooner' (c.soonest_nil.ensures doc (nilled g)))

@@ -1,17 +1,10 @@
--- `spelling::put` meets its contract: after i bytes, putting the others is what putting all was.
-use Prim.Native.Nat.{◌-◌}
+-- `spelling::put` meets its contract: past the end nothing, else what there is room for.
 use borrow.Author.Rules.{rules}
-use Rattle.spelling.proofs.Pieces.{putting_none, putting_more, putting_full, putting_all}
+use Rattle.spelling.proofs.Pieces.{puts_past, puts_front}
 use Rattle.spelling.proofs.put.Goals as goal
 
-pub loop-i-init : goal.loop-i-init
-loop-i-init c = putting_none _ _ _
-
-pub returns-then-text-to : goal.returns-then-text-to
-returns-then-text-to c = putting_full c.loop-i.invariant (search rules) (search rules)
-
-pub loop-i-preserved : goal.loop-i-preserved
-loop-i-preserved c = putting_more c.loop-i.invariant (search rules) (search rules)
+pub returns-then-text-at : goal.returns-then-text-at
+returns-then-text-at c = puts_past c.if-text-at.true
 
 pub returns : goal.returns
-returns c = putting_all c.loop-i.invariant (search rules)
+returns c = puts_front (search rules) c.min-n.ensures c.copy_from_slice.ensures.after

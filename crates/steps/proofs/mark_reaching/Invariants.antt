@@ -1,5 +1,4 @@
 -- `steps::mark_reaching` meets its contract: below i each record has its mark.
-use Prim.Native.Nat.{◌≤◌, ◌-◌}
 use mathlib.Core.Path.{◌≡◌}
 use lib.Dec.{ltb}
 use lib.ListN.{length, get_or}
@@ -7,7 +6,4 @@ use Rattle.prepare.proofs.Filling.{Filled, Marked}
 use Rattle.steps.proofs.mark_reaching.Given as goal
 
 abbrev pub invariant-loop-i : goal.invariant-loop-i
-invariant-loop-i l = (l.i ≤ l.n) × (length l.marks ≡ length l.initial.marks) × Filled (Marked (λ f. ltb 0 (get_or l.reach f 0))) l.i l.marks
-
-abbrev pub decreases-loop-i : goal.decreases-loop-i
-decreases-loop-i l = l.n - l.i
+invariant-loop-i l = (length l.marks ≡ length l.initial.marks) × Filled (Marked (λ f. ltb 0 (get_or l.reach f 0))) l.i l.marks

@@ -13,14 +13,14 @@ returns-in_default c =
 
 pub returns-then-not-count : goal.returns-then-not-count
 returns-then-not-count c =
-    text-count _ (sym c.in-Number.ensures) c.if-not-count.true _
+    text-count _ (sym c.in-Some.ensures) c.if-not-count.true _
 
 pub read_lines-requires : goal.read_lines-requires
 read_lines-requires c =
-    let n = c.in-Number.count in
+    let n = c.in-Some.count in
     let few = leb-true n limit (and_r (leb 1 n) (leb n limit) c.if-not-count.false) in
     (few, room-less few c.requires)
 
 pub returns : goal.returns
 returns c =
-    text-lines _ (sym c.in-Number.ensures) c.if-not-count.false c.read_lines.ensures
+    text-lines _ (sym c.in-Some.ensures) c.if-not-count.false c.read_lines.ensures

@@ -14,7 +14,7 @@ returns-in_default c =
 
 pub loop-i-preserved : goal.loop-i-preserved
 loop-i-preserved c =
-    let line = sym c.in-Record.ensures in
+    let line = sym c.in-Some.ensures in
     filling_more c.loop-i.invariant c.loop-i-test.true c.requires.1 line (given w32 (line-sound _ _ line).fits)
 
 pub returns : goal.returns

@@ -11,4 +11,4 @@ pub returns : goal.returns
 unfolding blank
 returns c =
     let read = c.read_into-answer.ensures in
-    record { answer = read.answer; columns = read.columns _ c.in-Records.is }
+    record { answer = read.answer; columns = read.columns _ c.in-Ok.is }

@@ -1,7 +1,7 @@
 -- `bank::opened::changes_of` meets its contract: no such rule, a rule that is not sequenced, and the list.
-use borrow.Author.Rules.{rules}
+use Rattle.nodes.proofs.Held.{held-image}
 use Rattle.rules.proofs.Tables.{accepted-row, fields_of, fields_referred}
-use Rattle.opening.proofs.Opens.{accepted-both}
+use Rattle.opening.proofs.Opens.{accepted-both, alone}
 use Rattle.bank.proofs.Turning.{changes_none, changes_windowed, changes_stored, rule_here, turnable}
 use Rattle.bank.proofs.opened.changes_of.Goals as goal
 
@@ -25,20 +25,8 @@ referred_rule-q-requires c =
     let o = c.requires.0 in
     ((accepted-both _ o.1 c.requires.1).1, rule_here o.0 _ c.args.rule c.args.out.now o.1 c.requires.1 c.count_rules.ensures c.if-count_rules-rule.false)
 
-pub slice_bounds-changes_front-end : goal.slice_bounds-changes_front-end
-slice_bounds-changes_front-end c = search (rules, c.well_formed)
-
-pub slice_bounds-changes_front-end-2 : goal.slice_bounds-changes_front-end-2
-slice_bounds-changes_front-end-2 c = search (rules, c.well_formed)
-
-pub slice_bounds-changes_front-end-3 : goal.slice_bounds-changes_front-end-3
-slice_bounds-changes_front-end-3 c = search (rules, c.well_formed)
-
-pub slice_bounds-changes_front-end-4 : goal.slice_bounds-changes_front-end-4
-slice_bounds-changes_front-end-4 c = search (rules, c.well_formed)
-
-pub slice_bounds-changes_front-end-5 : goal.slice_bounds-changes_front-end-5
-slice_bounds-changes_front-end-5 c = search (rules, c.well_formed)
+pub front-requires : goal.front-requires
+front-requires c = let o = c.requires.0 in (held-image o.0 o.1.columns.answer (alone _ o.1 c.requires.1)).few
 
 pub changes_front-requires : goal.changes_front-requires
 changes_front-requires c =
@@ -47,10 +35,10 @@ changes_front-requires c =
     let here = rule_here o.0 _ c.args.rule c.args.out.now o.1 c.requires.1 c.count_rules.ensures c.if-count_rules-rule.false in (
       fields_of c.args.rules.now ok c.args.rule here c.rule_at-r.ensures,
       λ e. (fields_referred c.args.rules.now ok c.args.rule here c.rule_at-r.ensures c.referred_rule-q.ensures e).0,
-      turnable o.0 _ c.args.rule c.args.out.now o.1 c.requires.1 c.count_rules.ensures c.if-count_rules-rule.false c.rule_at-r.ensures,
+      turnable o.0 _ c.args.rule c.args.out.now o.1 c.requires.1 c.count_rules.ensures c.if-count_rules-rule.false c.rule_at-r.ensures c.front.ensures,
     )
 
 pub returns : goal.returns
 returns c nodes o =
-    changes_stored nodes _ _ _ o c.requires.1 c.count_rules.ensures c.if-count_rules-rule.false c.rule_at-r.ensures c.if-r-ne0.false c.referred_rule-q.ensures
+    changes_stored nodes _ _ _ o c.requires.1 c.count_rules.ensures c.if-count_rules-rule.false c.rule_at-r.ensures c.front.ensures c.if-r-ne0.false c.referred_rule-q.ensures
     (λ doc p t w e. c.changes_front.ensures.answer doc p t w e) (λ doc p t w e. c.changes_front.ensures.lent doc p t w e)

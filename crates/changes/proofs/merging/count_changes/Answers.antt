@@ -1,16 +1,11 @@
 -- `changes::merging::count_changes` meets its contract: what is counted so far and what is left make up the whole.
-use Prim.Native.Nat.{◌-◌}
 use native.Mathlib.Omega.{arith}
 use borrow.Author.Rules.{rules}
-use Rattle.changes.proofs.Merged.{merges}
 use Rattle.changes.proofs.Tallied.{tally_start, tally_more, tally_end}
 use Rattle.changes.proofs.merging.count_changes.Goals as goal
 
 pub loop-at-init : goal.loop-at-init
 loop-at-init c = (search rules, search rules, λ doc q r m e. tally_start doc q r _ _ _ _ e (search rules))
-
-pub loop-at-smaller : goal.loop-at-smaller
-loop-at-smaller c = let l = c.next_change-at.ensures.later c.loop-at-test.true in omega arith
 
 pub loop-at-preserved : goal.loop-at-preserved
 loop-at-preserved c =
@@ -21,5 +16,4 @@ loop-at-preserved c =
 pub returns : goal.returns
 returns c =
     let s = c.loop-at in
-    λ doc q r p a b own ref referred e.
-    tally_end doc q r _ _ _ _ e s.invariant.0 (s.invariant.2 doc q r (merges doc q r p a b own ref referred) e) c.loop-at-test.false
+    λ doc q r m e. tally_end doc q r _ _ _ _ e s.invariant.0 (s.invariant.2 doc q r m e) c.loop-at-test.false

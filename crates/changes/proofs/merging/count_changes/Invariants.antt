@@ -3,14 +3,14 @@ use mathlib.Core.Path.{◌≡◌}
 use Prim.Native.Nat.{◌≤◌, ◌<◌, ◌-◌}
 use Rattle.meaning.specs.declared.Rule.{Rule}
 use Rattle.meaning.specs.Document.{Doc}
-use Rattle.changes.specs.Merging.{Merges}
+use Rattle.changes.specs.Walks.{MergesAlong}
 use Rattle.changes.proofs.Tallied.{Tally}
 use Rattle.changes.proofs.merging.count_changes.Given as goal
 
 abbrev pub invariant-loop-at : goal.invariant-loop-at
 invariant-loop-at l = (l.first < l.past) × (l.n ≤ l.at.day)
-    × ((doc : Doc) → (q r : Rule) → Merges doc q r l.opens l.closes l.begin l.end l.own l.reference l.referred → l.first ≡ r.begin
-    → Tally doc q r l.opens l.closes l.first l.past l.at.begun l.at.ended l.at.day l.n)
+    × ((doc : Doc) → (q r : Rule) → MergesAlong doc q r l.walk → l.first ≡ r.begin
+    → Tally doc q r l.walk.opens.now l.walk.closes.now l.first l.past l.at.begun l.at.ended l.at.day l.n)
 
 abbrev pub decreases-loop-at : goal.decreases-loop-at
 decreases-loop-at l = l.past - l.at.day

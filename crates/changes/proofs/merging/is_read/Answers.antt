@@ -3,11 +3,11 @@ use Rattle.changes.proofs.Merged.{read-own, read_none, read-other}
 use Rattle.std.proofs.Common.{ap, not}
 use Rattle.changes.proofs.merging.is_read.Goals as goal
 
-pub returns-then-own-x-eq1 : goal.returns-then-own-x-eq1
-returns-then-own-x-eq1 c = read-own _ _ _ _ c.if-own-x-eq1.true
+pub returns-then-read-x-eq1 : goal.returns-then-read-x-eq1
+returns-then-read-x-eq1 c = read-own _ _ _ _ c.if-read-x-eq1.true
 
-pub returns-then-not-reference : goal.returns-then-not-reference
-returns-then-not-reference c = read_none _ _ _ _ c.if-own-x-eq1.false (ap not c.if-not-reference.true)
+pub returns-then-not-read : goal.returns-then-not-read
+returns-then-not-read c = read_none _ _ _ _ c.if-read-x-eq1.false (ap not c.if-not-read.true)
 
 pub returns : goal.returns
-returns c = read-other _ _ _ _ c.if-own-x-eq1.false (ap not c.if-not-reference.false)
+returns c = read-other _ _ _ _ c.if-read-x-eq1.false (ap not c.if-not-read.false)

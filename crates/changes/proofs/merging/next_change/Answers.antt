@@ -8,8 +8,8 @@ returns c =
     let j = c.next_turn-ended.ensures in
     let a = c.day_at-opened.ensures in
     let b = c.day_at-closed.ensures in
-    let t = c.lesser-turned.ensures in
-    let u = c.lesser.ensures in record {
+    let t = c.min-turned.ensures in
+    let u = c.min.ensures in record {
       later = λ l. later-day t u l (later-found i a l) (later-found j b l);
       next = λ doc q r m w l. (come_on doc q r m w l i j a b t u, next-found doc q r m w l i j a b t u);
     }

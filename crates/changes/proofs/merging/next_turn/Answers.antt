@@ -1,14 +1,9 @@
 -- `changes::merging::next_turn` meets its contract: the next position from i on is the next one from `from` on.
-use mathlib.Core.Path.{refl, sym, ◌∙◌}
-use Prim.Native.Nat.{◌-◌}
+use mathlib.Core.Path.{sym, ◌∙◌}
 use native.Mathlib.Omega.{arith}
 use Rattle.marks.proofs.After.{after-here, after_next, after-end}
-use Rattle.changes.specs.Merging.{turns_after}
 use Rattle.changes.proofs.Merged.{told}
 use Rattle.changes.proofs.merging.next_turn.Goals as goal
-
-pub loop-i-init : goal.loop-i-init
-loop-i-init c = refl
 
 pub turns_after-requires : goal.turns_after-requires
 turns_after-requires c =

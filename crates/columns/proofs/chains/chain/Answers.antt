@@ -1,41 +1,31 @@
 -- `columns::chains::chain` meets its contract: the pass has chained the records below i, and each turn skips or adds record i.
-use Prim.Native.Nat.{◌-◌}
 use mathlib.Core.Path.{◌≡◌, refl}
 use native.Mathlib.Omega.{arith}
 use lib.ListN.{length}
-use Rattle.meaning.proofs.Says.{says}
 use Rattle.columns.proofs.Linking.{chained_none, chained_skip, chained_store}
 use Rattle.columns.proofs.chains.chain.Goals as goal
-use Rattle.columns.proofs.chains.chain.Goals.{then-kind-i, else-kind-i}
+use Rattle.columns.proofs.chains.chain.Goals.{then-kind-i+then-k-lt-LIMIT, else-kind-i, else-kind-i-via-then-kind-i+else-k-lt-LIMIT, else-kind-i-via-else-kind-i}
 
 pub loop-i-init : goal.loop-i-init
-loop-i-init c = (omega arith, chained_none _ _ _ _ _ _ refl refl refl)
-
-pub offset_bounds-last-k : goal.offset_bounds-last-k
-offset_bounds-last-k c = omega (arith, (simp says at c.if-kind-i.true).1)
-
-pub bounds-last-k : goal.bounds-last-k
-bounds-last-k c = omega (arith, (simp says at c.if-kind-i.true).1)
-
-pub offset_bounds-last-k-then-kind-i : goal.offset_bounds-last-k-then-kind-i
-offset_bounds-last-k-then-kind-i c = omega (arith, (simp says at c.if-kind-i.true).1)
-
-pub bounds-last-k-then-kind-i : goal.bounds-last-k-then-kind-i
-bounds-last-k-then-kind-i c = omega (arith, (simp says at c.if-kind-i.true).1)
+loop-i-init c = chained_none _ _ _ _ _ _ refl refl refl
 
 pub loop-i-preserved : goal.loop-i-preserved
 loop-i-preserved c =
-    let s = c.loop-i in
-    let k = c.index-k in
+    let s = c.loop-i.invariant in
+    let k = c.index-k.ensures in
     elim c.if-kind-i.branch [
-      | then-kind-i w ↦
-          rw (w.last-is, w.lower-is) (omega arith, chained_store _ _ _ _ _ _ _ s.invariant.1 (omega arith) _ k.ensures w.if-kind-i.true)
+      | then-kind-i+then-k-lt-LIMIT w ↦
+          rw (w.last-is, w.lower-is) (chained_store _ _ _ _ _ _ _ s (omega arith) _ k w.if-kind-i.true w.if-k-lt-LIMIT.true)
       | else-kind-i w ↦
-          rw (w.last-is, w.lower-is) (omega arith, chained_skip _ _ _ _ _ _ _ s.invariant.1 (omega arith) _ k.ensures w.if-kind-i.false)
+          rw (w.last-is, w.lower-is) (chained_skip _ _ _ _ _ _ _ s (omega arith) _ k
+          (elim w.else-kind-i.branch [
+            | else-kind-i-via-then-kind-i+else-k-lt-LIMIT v ↦ λ _ h. omega (arith, v.if-k-lt-LIMIT.false)
+            | else-kind-i-via-else-kind-i v ↦ λ e. absurd (v.if-kind-i.false e)
+          ]))
     ]
 
 pub returns : goal.returns
 returns c =
     let s = c.loop-i in
     let e : s.i ≡ length c.args.kind.now = omega arith in
-    rw e at s.invariant.1
+    rw e at s.invariant

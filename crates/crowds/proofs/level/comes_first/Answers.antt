@@ -15,11 +15,5 @@ x_fits c = omega (arith, c.requires c.args.i (search rules), c.index.ensures)
 pub returns-then-order-i : goal.returns-then-order-i
 returns-then-order-i c = first-none _ _ _ _ (search rules)
 
-pub offset_bounds-lo-index : goal.offset_bounds-lo-index
-offset_bounds-lo-index c = omega (arith, x_fits (goal.at.offset_bounds-lo-index c).After-index)
-
-pub bounds-lo-index : goal.bounds-lo-index
-bounds-lo-index c = omega (arith, x_fits (goal.at.bounds-lo-index c).After-index)
-
 pub returns : goal.returns
 returns c = first_some _ _ _ _ _ (search rules) c.index.ensures _ refl

@@ -2,7 +2,7 @@
 use mathlib.Core.Path.{sym, ◌∙◌}
 use Rattle.day.proofs.Tallying.{walked_start, walked_less, walked_skip, walked_more, counted-end}
 use Rattle.day.proofs.row.tally_row.Goals as goal
-use Rattle.day.proofs.row.tally_row.Goals.{then-present, else-present}
+use Rattle.day.proofs.row.tally_row.Goals.{then-has, else-has}
 
 pub loop-at-init : goal.loop-at-init
 loop-at-init c = walked_start _ _ _ _ _ c.requires.chain _
@@ -15,10 +15,10 @@ pub loop-at-preserved : goal.loop-at-preserved
 loop-at-preserved c =
     let s = c.loop-at in
     let h = c.loop-at-test.true in
-    let is = c.present.ensures in
-    elim c.if-present.branch [
-      | then-present w ↦ walked_more _ _ _ _ _ c.requires.chain _ _ _ s.invariant h _ c.index-at.ensures (sym is ∙ w.if-present.true) _ _ w.count-is (w.last-is ∙ w.index-last.ensures)
-      | else-present w ↦ walked_skip _ _ _ _ _ c.requires.chain _ _ _ s.invariant h _ c.index-at.ensures (sym is ∙ w.if-present.false) _ _ w.count-is w.last-is
+    let is = c.has.ensures in
+    elim c.if-has.branch [
+      | then-has w ↦ walked_more _ _ _ _ _ c.requires.chain _ _ _ s.invariant h _ c.index-at.ensures (sym is ∙ w.if-has.true) _ _ w.count-is (w.last-is ∙ w.index-last.ensures)
+      | else-has w ↦ walked_skip _ _ _ _ _ c.requires.chain _ _ _ s.invariant h _ c.index-at.ensures (sym is ∙ w.if-has.false) _ _ w.count-is w.last-is
     ]
 
 pub returns : goal.returns

@@ -8,4 +8,4 @@ returns-then-n-c c = placed-alone _ _ _ _ _ _ _ (omega arith) _ c.index-c.ensure
 
 pub returns : goal.returns
 returns c =
-    placed-after _ _ _ _ _ _ _ (omega arith) _ _ _ c.index-c.ensures (omega arith) (omega arith) c.later.ensures c.later-2.ensures
+    placed-after _ _ _ _ _ _ _ (omega arith) _ _ _ c.index-c.ensures (omega arith) (omega arith) c.max.ensures c.max-2.ensures

@@ -5,11 +5,11 @@ use Rattle.meaning.specs.Nodes.{share_day, overlap}
 use Rattle.document.proofs.Pairs.{by_number, by_name, by-days}
 use Rattle.document.proofs.clash.clashes_with.Goals as goal
 
-pub returns-then-item-j : goal.returns-then-item-j
-returns-then-item-j c = by_number _ _ _ c.requires.3 c.if-item-j.true
+pub returns-then-of-j : goal.returns-then-of-j
+returns-then-of-j c = by_number _ _ _ c.requires.3 c.if-of-j.true
 
-pub returns-then-name-j : goal.returns-then-name-j
-returns-then-name-j c = by_name _ _ _ c.requires.3 c.if-item-j.false c.if-name-j.true
+pub returns-then-of-j-2 : goal.returns-then-of-j-2
+returns-then-of-j-2 c = by_name _ _ _ c.requires.3 c.if-of-j.false c.if-of-j-2.true
 
 pub overlaps-requires : goal.overlaps-requires
 overlaps-requires c =
@@ -19,4 +19,4 @@ overlaps-requires c =
 
 pub returns : goal.returns
 unfolding overlap version_of share_day
-returns c = c.overlaps.ensures ∙ by-days _ _ _ c.requires.3 c.if-item-j.false c.if-name-j.false
+returns c = c.overlaps.ensures ∙ by-days _ _ _ c.requires.3 c.if-of-j.false c.if-of-j-2.false

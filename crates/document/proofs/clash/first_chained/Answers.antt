@@ -1,5 +1,4 @@
 -- `document::clash::first_chained` meets its contract: what is left at i is the walk over the records from i on.
-use Prim.Native.Nat.{◌-◌}
 use mathlib.Core.Path.{sym, ◌∙◌}
 use native.Mathlib.Omega.{arith}
 use Rattle.meaning.proofs.Loops.{first-start, first-yes, first-no, first-end}

@@ -2,7 +2,6 @@
 use native.Mathlib.Omega.{arith}
 use Rattle.meaning.specs.Document.{version_of}
 use Rattle.meaning.specs.Nodes.{overlap}
-use Rattle.document.specs.Meet.{meets_item}
 use Rattle.document.proofs.Meeting.{down_start, down_hit, down_less, down_next, down_end}
 use Rattle.document.proofs.clash.overlaps.Goals as goal
 

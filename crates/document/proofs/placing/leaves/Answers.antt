@@ -15,4 +15,4 @@ up-a-requires c = (omega arith, c.requires.over c.if-p-eq0.false)
 pub returns : goal.returns
 returns c =
     let a = c.args in
-    sym (leaves_by (periods [] a.parent.now a.begin.now a.end.now) a.v a.p c.requires.is c.up-a.result c.if-p-eq0.false c.up-a.ensures.0)
+    sym (leaves_by (periods [] a.records.parent.now a.records.begin.now a.records.end.now) a.v a.p c.requires.is c.up-a.result c.if-p-eq0.false c.up-a.ensures.0)

@@ -1,16 +1,16 @@
 -- `document::records::decode` meets its contract. Assumes nothing.
+use Rattle.std.specs.Prelude.{Ok, Err}
 use mathlib.Core.Path.{◌≡◌}
 use mathlib.Core.Bool.{Bool, true, false, ◌||◌}
 use borrow.Author.Tests.{eq-eqb, ne_eqb}
 use Rattle.meaning.specs.declared.Node.{Node}
 use Rattle.meaning.specs.Nodes.{item_fields, version_fields, node_fields}
-use Rattle.document.specs.declared.records.Decoded.TheVariants as D
 use Rattle.document.specs.Decoding.{decoded}
 use Rattle.document.proofs.records.decode.Goals as goal
 
 -- the three ways out
 module _ (n : Node) where
-  failed-4 : (n.spare ≡ 0 → ⊥) → D.Refused 4 ≡ decoded n
+  failed-4 : (n.spare ≡ 0 → ⊥) → Err 4 ≡ decoded n
   unfolding decoded
   failed-4 z = rw (ne_eqb n.spare 0 z)
 
@@ -19,11 +19,11 @@ module _ (n : Node) where
     unfolding node_fields
     fits = rw (p, q)
 
-    passed : a || b ≡ true → D.Node n ≡ decoded n
+    passed : a || b ≡ true → Ok n ≡ decoded n
     unfolding decoded
     passed t = rw (eq-eqb n.spare 0 z, fits, t)
 
-    failed-5 : a || b ≡ false → D.Refused 5 ≡ decoded n
+    failed-5 : a || b ≡ false → Err 5 ≡ decoded n
     unfolding decoded
     failed-5 t = rw (eq-eqb n.spare 0 z, fits, t)
 

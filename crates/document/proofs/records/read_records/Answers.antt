@@ -1,6 +1,5 @@
 -- `document::records::read_records` meets its contract. The invariant: every record below i was accepted, and `deep` holds their depths.
 -- Assumes nothing.
-use Prim.Native.Nat.{◌-◌}
 use mathlib.Core.Path.{refl, sym, ◌∙◌}
 use native.Mathlib.Omega.{arith}
 use lib.ListN.{length-set}
@@ -11,10 +10,9 @@ use Rattle.document.proofs.records.read_records.Goals as goal
 pub loop-i-init : goal.loop-i-init
 loop-i-init c = (refl, c.requires.few, seen_start _ _)
 
-pub returns-in_default : goal.returns-in_default
-returns-in_default c =
-    seen-refused _ _ _ c.loop-i.invariant.2 c.loop-i-test.true _ _ c.gather.ensures c.decode-d.ensures _ _
-    c.in_default.is c.number.ensures
+pub returns-in-Err : goal.returns-in-Err
+returns-in-Err c =
+    seen-refused _ _ _ c.loop-i.invariant.2 c.loop-i-test.true _ _ c.gather-node.ensures c.decode.ensures _ c.in-Err.is
 
 pub parent_fits-requires : goal.parent_fits-requires
 parent_fits-requires c =
@@ -22,7 +20,7 @@ parent_fits-requires c =
 
 pub returns-then-not-parent_fits : goal.returns-then-not-parent_fits
 returns-then-not-parent_fits c =
-    seen-6 _ _ _ c.loop-i.invariant.2 c.loop-i-test.true _ _ c.gather.ensures c.decode-d.ensures _ c.in-Node.is
+    seen-6 _ _ _ c.loop-i.invariant.2 c.loop-i-test.true _ _ c.gather-node.ensures c.decode.ensures _ c.in-Ok.is
     (fits-same _ _ _ refl refl ∙ sym c.parent_fits.ensures ∙ c.if-not-parent_fits.true)
 
 pub slice_bounds-depth_at-end : goal.slice_bounds-depth_at-end
@@ -30,13 +28,13 @@ slice_bounds-depth_at-end c = sym c.loop-i.invariant.0
 
 pub depth_at-x-requires : goal.depth_at-x-requires
 depth_at-x-requires c =
-    let is = seen-node _ _ _ c.loop-i.invariant.2 c.loop-i-test.true _ _ c.gather.ensures c.decode-d.ensures _ c.in-Node.is in
+    let is = seen-node _ _ _ c.loop-i.invariant.2 c.loop-i-test.true _ _ c.gather-node.ensures c.decode.ensures _ c.in-Ok.is in
     depth-room _ _ _ c.loop-i.invariant.2 _ is
     (fits-same _ _ _ refl refl ∙ sym c.parent_fits.ensures ∙ c.if-not-parent_fits.false) (omega arith)
 
 pub returns-then-x-gt-DEEPEST : goal.returns-then-x-gt-DEEPEST
 returns-then-x-gt-DEEPEST c =
-    seen-8 _ _ _ c.loop-i.invariant.2 c.loop-i-test.true _ _ c.gather.ensures c.decode-d.ensures _ c.in-Node.is
+    seen-8 _ _ _ c.loop-i.invariant.2 c.loop-i-test.true _ _ c.gather-node.ensures c.decode.ensures _ c.in-Ok.is
     (fits-same _ _ _ refl refl ∙ sym c.parent_fits.ensures ∙ c.if-not-parent_fits.false)
     _ c.depth_at-x.ensures (omega (arith, c.if-x-gt-DEEPEST.true))
 
@@ -45,7 +43,7 @@ loop-i-preserved c =
     let inv = c.loop-i.invariant in (
       simp length-set inv.0,
       simp length-set inv.1,
-      seen-on _ _ _ inv.2 c.loop-i-test.true _ _ c.gather.ensures c.decode-d.ensures _ c.in-Node.is
+      seen-on _ _ _ inv.2 c.loop-i-test.true _ _ c.gather-node.ensures c.decode.ensures _ c.in-Ok.is
           (fits-same _ _ _ refl refl ∙ sym c.parent_fits.ensures ∙ c.if-not-parent_fits.false)
           _ c.depth_at-x.ensures (omega (arith, c.if-x-gt-DEEPEST.false)) (omega arith),
     )

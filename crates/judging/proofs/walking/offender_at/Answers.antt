@@ -7,7 +7,7 @@ pub spoilt_at-spoilt-requires : goal.spoilt_at-spoilt-requires
 spoilt_at-spoilt-requires c = let a = c.requires.2 in (a.0, a.2.on-days.rowed.rows, a.2.nilling)
 
 pub aside_at-other-requires : goal.aside_at-other-requires
-aside_at-other-requires c = let p = c.requires in (p.0, p.1, (p.2.0, p.2.1, _, p.2.2))
+aside_at-other-requires c = c.requires
 
 pub returns : goal.returns
 unfolding offender_at
@@ -15,5 +15,5 @@ returns c =
     let other = c.aside_at-other.ensures in
     let spoilt = c.spoilt_at-spoilt.ensures in
     λ doc q at a p n s.
-    let t = other doc q _ at a p n s in
+    let t = other doc q at a p n s in
     c.lower.ensures t.test _ (offends_at doc _ q _) _ t.lowest (spoilt doc at a.on-days.rowed.rows a.nilling s) t.told

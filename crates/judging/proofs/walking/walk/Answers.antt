@@ -1,5 +1,4 @@
 -- `judging::walking::walk` meets its contract: no place that was passed has an offender.
-use Prim.Native.Nat.{◌-◌}
 use native.Mathlib.Omega.{arith}
 use Rattle.judging.specs.Stopping.{Stands}
 use Rattle.judging.proofs.Stops.{clear_none, clear-end, stands, from-few, offended, passed}
@@ -20,29 +19,22 @@ place_at-here-requires c =
     let p = c.requires in
     (p.0, p.3, omega (arith, c.loop-k-test.true))
 
-pub offender_at-found-requires : goal.offender_at-found-requires
-offender_at-found-requires c =
+pub offender_at-requires : goal.offender_at-requires
+offender_at-requires c =
     let p = c.requires in
-    (p.1, from-few p.3 (there (goal.at.offender_at-found-requires c).After-place_at-here), (p.4.0, p.4.1, p.4.2))
+    (p.1, from-few p.3 (there (goal.at.offender_at-requires c).After-place_at-here), (p.4.0, p.4.1, p.4.2))
 
-pub returns-in-At : goal.returns-in-At
-returns-in-At c =
+pub returns-in-Some : goal.returns-in-Some
+returns-in-Some c =
     let p = c.requires in
     let n = c.place_at-here.ensures.number in
-    λ doc q a. offended (there (goal.at.returns-in-At c).After-place_at-here) n (c.loop-k.invariant doc q a) (c.offender_at-found.ensures doc q _ a p.2 p.3 (there (goal.at.returns-in-At c).After-place_at-here)) c.in-At.is
-
-pub overflow_add-k : goal.overflow_add-k
-overflow_add-k c =
-    record { fits = omega (arith, c.loop-k-test.true, c.requires.3.count_most) }
-
-pub loop-k-smaller : goal.loop-k-smaller
-loop-k-smaller c = omega (arith, c.loop-k-test.true)
+    λ doc q a. offended (there (goal.at.returns-in-Some c).After-place_at-here) n (c.loop-k.invariant doc q a) (c.offender_at.ensures doc q _ a p.2 p.3 (there (goal.at.returns-in-Some c).After-place_at-here)) c.in-Some.is
 
 pub loop-k-preserved : goal.loop-k-preserved
 loop-k-preserved c =
     let p = c.requires in
     let n = c.place_at-here.ensures.number in
-    λ doc q a. passed (there (goal.at.loop-k-preserved c).After-place_at-here) n (c.loop-k.invariant doc q a) (c.offender_at-found.ensures doc q _ a p.2 p.3 (there (goal.at.loop-k-preserved c).After-place_at-here)) c.in_default.is
+    λ doc q a. passed (there (goal.at.loop-k-preserved c).After-place_at-here) n (c.loop-k.invariant doc q a) (c.offender_at.ensures doc q _ a p.2 p.3 (there (goal.at.loop-k-preserved c).After-place_at-here)) c.in_default.is
 
 pub returns : goal.returns
 returns c = λ doc q a. clear-end (c.loop-k.invariant doc q a) (omega (arith, c.loop-k-test.false))

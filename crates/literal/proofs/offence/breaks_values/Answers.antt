@@ -3,7 +3,6 @@ use mathlib.Core.Path.{refl, ◌∙◌}
 use native.Mathlib.Omega.{arith}
 use Rattle.literal.proofs.Alone.{is-nil_lem}
 use Rattle.literal.proofs.Judging.{breaks-key, breaks-key_not_one, breaks-unique, breaks-reference}
-use borrow.Author.Rules.{rules}
 use Rattle.literal.proofs.offence.breaks_values.Goals as goal
 
 pub returns-then-kind-eq3 : goal.returns-then-kind-eq3
@@ -15,14 +14,11 @@ returns-then-kind-eq2 c =
     let v = c.requires.1 in
     λ doc p q r w o n k low high. breaks-unique doc p q r _ o _ _ _ n _ _ (omega (arith, w.vkind.size)) (c.taken-twice.ensures doc w) (k ∙ c.if-kind-eq2.true) refl
 
-pub returns-then-many-ne1 : goal.returns-then-many-ne1
-returns-then-many-ne1 c =
+pub returns-then-t-ne1 : goal.returns-then-t-ne1
+returns-then-t-ne1 c =
     let not-unique = c.if-kind-eq2.false in
     let not-reference = c.if-kind-eq3.false in
-    λ doc p q r w o n k low high. breaks-key_not_one doc p q r _ o _ _ _ n (omega arith) c.if-many-ne1.true
-
-pub bounds-vkind-one : goal.bounds-vkind-one
-bounds-vkind-one c = let p = c.requires in search (rules, p.0 (omega arith))
+    λ doc p q r w o n k low high. breaks-key_not_one doc p q r _ o _ _ _ n (omega arith) c.if-t-ne1.true
 
 pub returns : goal.returns
 returns c =
@@ -30,4 +26,4 @@ returns c =
     let not-unique = c.if-kind-eq2.false in
     let not-reference = c.if-kind-eq3.false in
     λ doc p q r w o n k low high. breaks-key doc p q r _ o _ _ _ n _ _ (omega (arith, w.vkind.size)) (c.taken-twice.ensures doc w) (omega arith) refl
-    c.if-many-ne1.false _ (is-nil_lem doc _ _ w _)
+    c.if-t-ne1.false _ (is-nil_lem doc _ _ w _)

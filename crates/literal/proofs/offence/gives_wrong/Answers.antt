@@ -12,6 +12,6 @@ use Rattle.literal.proofs.offence.gives_wrong.Goals as goal
 
 pub returns : goal.returns
 returns c =
-    let r = c.args.r in
-    λ doc p l w. wrong-breaks doc p r _ _ w _ _ _ _ (held (get_or c.args.value.now c.args.f (pos 0))) (held r.low) (held r.high)
+    let r = c.args.asked.rule in
+    λ doc p l w. wrong-breaks doc p r _ _ w _ _ _ _ (held (get_or c.args.records.value.now c.args.f (pos 0))) (held r.low) (held r.high)
     (c.gives-given.ensures doc p r l refl) c.wrong.ensures (search rules) (given w32 (omega arith)) (given w32 (omega arith))

@@ -17,10 +17,6 @@ returns-then-t-ne1 c =
       λ doc p q l w m. only-not_one doc p q _ _ l.present m _ (omega (arith, l.tree.kind.size)) _ _ (c.values-t.ensures.1 doc p q l w) c.if-t-ne1.true,
     )
 
-pub overflow_add-result : goal.overflow_add-result
-overflow_add-result c =
-    search (rules, c.values-t.ensures.0 (omega arith))
-
 pub overflow_cast-result : goal.overflow_cast-result
 overflow_cast-result c =
     search (rules, c.values-t.ensures.0 (omega arith), lies-few _ _ _ c.requires.2.lies)

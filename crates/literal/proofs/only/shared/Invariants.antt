@@ -1,7 +1,6 @@
 -- `literal::only::shared` meets its contract: no version below u shares the value.
 use mathlib.Core.Path.{◌≡◌}
 use mathlib.Core.Bool.{false}
-use Prim.Native.Nat.{◌≤◌, ◌-◌}
 use Rattle.meaning.specs.Document.{Doc}
 use Rattle.meaning.specs.Walk.{any}
 use Rattle.literal.specs.Laid.{Valued}
@@ -9,7 +8,4 @@ use Rattle.literal.specs.Only.{shares_at}
 use Rattle.literal.proofs.only.shared.Given as goal
 
 abbrev pub invariant-loop-u : goal.invariant-loop-u
-invariant-loop-u l = (l.u ≤ l.upto) × ((doc : Doc) → Valued doc l.vkind l.value → any (shares_at doc l.only l.f) 0 l.u ≡ false)
-
-abbrev pub decreases-loop-u : goal.decreases-loop-u
-decreases-loop-u l = l.upto - l.u
+invariant-loop-u l = (doc : Doc) → Valued doc l.vkind l.value → any (shares_at doc l.only l.f) 0 l.u ≡ false

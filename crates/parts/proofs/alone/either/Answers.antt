@@ -4,9 +4,3 @@ use Rattle.parts.proofs.alone.either.Goals as goal
 
 pub is_kept-requires : goal.is_kept-requires
 is_kept-requires c = let p = c.requires in ground_covers _ _ _ _ p.3 p.4.froms
-
-pub returns-then-is_kept : goal.returns-then-is_kept
-returns-then-is_kept c = c.along.ensures
-
-pub returns : goal.returns
-returns c = c.sorted.ensures

@@ -3,5 +3,5 @@ use native.Mathlib.Omega.{arith}
 use Rattle.passes.proofs.Cases.{fits}
 use Rattle.parts.proofs.alone.is_kept.Goals as goal
 
-pub bounds-from-x : goal.bounds-from-x
-bounds-from-x c = omega (arith, fits c.requires _ (omega arith) c.index-x.ensures)
+pub bounds-from-index : goal.bounds-from-index
+bounds-from-index c = omega (arith, fits c.requires _ (omega arith) c.index.ensures)

@@ -6,6 +6,3 @@ pub along-requires : goal.along-requires
 along-requires c =
     let p = c.requires in
     (p.1, p.2, p.3, sorted_below _ _ _ _ _ c.versions_by-by_begin.ensures.in_order, p.4)
-
-pub returns : goal.returns
-returns c = c.along.ensures

@@ -6,7 +6,4 @@ pub too_many-requires : goal.too_many-requires
 too_many-requires c =
     let p = c.requires in
     let o = marked-ordered _ _ _ _ _ c.versions_by-sorted.ensures.in_order _ (key-marked _ _ _ c.key_marks-marks.ensures) in
-    (p.0, ordered_ground _ _ _ _ _ o p.2 p.3, p.1, o, p.4, p.5, p.6, p.7)
-
-pub returns : goal.returns
-returns c = c.too_many.ensures
+    (record { few = p.0; ground = ordered_ground _ _ _ _ _ o p.2 p.3; in_keys = p.1; by_begin = o; by_end = p.4 }, p.5, p.6, p.7)

@@ -8,13 +8,9 @@ too_few-requires c =
     let s = c.part.ensures in
     let p = c.requires in
     let o = marked-ordered _ _ _ _ _ c.versions_by-sorted.ensures.in_order _ (keyed-kind _ p.0 _ _ _ _ _ _ _ s) in (
-      p.0,
-      ordered_ground _ _ _ _ _ o s.in_from p.5,
+      record { few = p.0; ground = ordered_ground _ _ _ _ _ o s.in_from p.5; in_keys = s.in_supply; by_begin = o; by_end = supply-ordered _ p.0 _ _ _ _ _ _ _ s _ _ p.7 },
       p.1,
-      s.in_supply,
       p.6,
-      o,
-      supply-ordered _ p.0 _ _ _ _ _ _ _ s _ _ p.7,
       p.8,
       p.9,
       p.10,

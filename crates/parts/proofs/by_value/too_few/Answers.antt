@@ -10,9 +10,9 @@ pub firsts-begins-requires : goal.firsts-begins-requires
 firsts-begins-requires c =
     let p = c.requires in
     let pr = c.pairs_of-pair.ensures in
-    (p.0.few, pairs_ordered _ _ _ _ _ _ p.0.few pr p.4, pr.room, p.1.lo_room, p.1.hi_room)
+    (p.0.few, pairs_ordered _ _ _ _ _ _ p.0.few pr p.0.by_begin, pr.room, p.0.ground.lo_room, p.0.ground.hi_room)
 
 pub returns : goal.returns
 returns c =
     let p = c.requires in
-    few-values _ _ _ _ _ _ _ _ _ _ p.0.few p.1 p.3 c.pairs_of-pair.ensures c.firsts-begins.ensures.0 _ _ c.supplied.ensures
+    few-values _ _ _ _ _ _ _ _ _ _ p.0.few p.0.ground p.3 c.pairs_of-pair.ensures c.firsts-begins.ensures.0 _ _ c.supplied.ensures

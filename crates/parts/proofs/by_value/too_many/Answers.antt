@@ -12,22 +12,17 @@ pub firsts-begins-requires : goal.firsts-begins-requires
 firsts-begins-requires c =
     let p = c.requires in
     let pr = c.pairs_of-pair.ensures in
-    (p.0.few, pairs_ordered _ _ _ _ _ _ p.0.few pr p.2, pr.room, p.1.lo_room, p.1.hi_room)
+    (p.0.few, pairs_ordered _ _ _ _ _ _ p.0.few pr p.0.by_begin, pr.room, p.0.ground.lo_room, p.0.ground.hi_room)
 
 pub too_many-requires : goal.too_many-requires
 too_many-requires c =
     let p = c.requires in
-    let o = unmoved_ordered _ _ _ _ _ (c.firsts-begins.ensures.1 c.if-not-begins.true) p.2 in
-    (p.0.few, ordered_ground _ _ _ _ _ o c.firsts-begins.ensures.0.room p.1.hi_room, p.0.in_keys, o, p.3, p.4, search (rules, p.5), p.6)
+    let o = unmoved_ordered _ _ _ _ _ (c.firsts-begins.ensures.1 c.if-not-begins.true) p.0.by_begin in
+    (record { few = p.0.few; ground = ordered_ground _ _ _ _ _ o c.firsts-begins.ensures.0.room p.0.ground.hi_room; in_keys = p.0.in_keys; by_begin = o; by_end = p.0.by_end }, p.2, search (rules, p.3), p.4)
 
 pub returns-then-not-begins : goal.returns-then-not-begins
 returns-then-not-begins c =
     values-by _ _ _ _ _ _ _ c.requires.0.few c.pairs_of-pair.ensures c.firsts-begins.ensures.0 _ _ c.too_many.ensures
-
-pub resorted-requires : goal.resorted-requires
-resorted-requires c =
-    let p = c.requires in
-    (p.0.few, p.0.in_keys, c.firsts-begins.ensures.0.room, p.1.hi_room, p.3, p.4, search (rules, p.5), p.6)
 
 pub returns : goal.returns
 returns c =

@@ -7,10 +7,7 @@ use Rattle.paths.proofs.Filling.{marks-none, marks-more, marks-all}
 use Rattle.paths.proofs.selecting.mark_selected.Goals as goal
 
 pub loop-i-init : goal.loop-i-init
-loop-i-init c = (omega arith, refl, λ doc t. marks-none _ _)
-
-pub selected_mark-requires : goal.selected_mark-requires
-selected_mark-requires c = let p = c.requires in (p.0, c.loop-i-test.true, p.1)
+loop-i-init c = (refl, λ doc t. marks-none _ _)
 
 pub bounds-marks-i : goal.bounds-marks-i
 bounds-marks-i c = omega (arith, tree-few _ _ _ c.requires.1)
@@ -19,7 +16,7 @@ pub loop-i-preserved : goal.loop-i-preserved
 loop-i-preserved c =
     let s = c.loop-i in
     let few = tree-few _ _ _ c.requires.1 in
-    (omega arith, simp length-set s.invariant.1, λ doc t. marks-more (s.invariant.2 doc t) (omega arith) _ (c.selected_mark.ensures doc _ t refl refl))
+    (simp length-set s.invariant.0, λ doc t. marks-more (s.invariant.1 doc t) (omega arith) _ (c.selected_mark.ensures doc _ t refl refl))
 
 pub returns : goal.returns
-returns c = let s = c.loop-i in λ doc t. marks-all _ (s.invariant.2 doc t) (omega (arith, t.kind.size))
+returns c = let s = c.loop-i in λ doc t. marks-all _ (s.invariant.1 doc t) (omega (arith, t.kind.size))

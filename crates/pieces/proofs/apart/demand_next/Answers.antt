@@ -9,15 +9,15 @@ returns-then-supplies-j c =
     let p = c.requires in
     turn_demand _ _ _ _ _ _ (p.2 (omega arith))
 
-pub returns-then-order-i : goal.returns-then-order-i
-returns-then-order-i c = turn_supply _ _ _ _ _ _ (omega arith) (omega arith)
+pub returns-then-demands-i : goal.returns-then-demands-i
+returns-then-demands-i c = turn_supply _ _ _ _ _ _ (omega arith) (omega arith)
 
-pub bounds-lo-x : goal.bounds-lo-x
-bounds-lo-x c =
+pub bounds-demands-x : goal.bounds-demands-x
+bounds-demands-x c =
     omega (arith, fits c.requires.0 _ (omega arith) c.index-x.ensures)
 
-pub bounds-from-y : goal.bounds-from-y
-bounds-from-y c =
+pub bounds-supplies-y : goal.bounds-supplies-y
+bounds-supplies-y c =
     omega (arith, fits c.requires.1 _ (omega arith) c.index-y.ensures)
 
 pub returns : goal.returns

@@ -3,20 +3,16 @@ use native.Mathlib.Omega.{arith}
 use borrow.Author.Rules.{rules}
 use lib.ListN.{length}
 use Rattle.passes.proofs.Cases.{fits}
+use Rattle.passes.proofs.Clearing.{cleared}
 use Rattle.pieces.proofs.Merging.{met_none, met_demand, met_supply, met_end}
 use Rattle.pieces.proofs.Turning.{left_over, all_done}
 use Rattle.pieces.proofs.apart.gap_apart.Goals as goal
 
 pub loop-i-init : goal.loop-i-init
-loop-i-init c = (search rules, search rules, search rules, search rules, met_none _ _ _ _ _ _ _ _ _ c.clear.ensures)
+loop-i-init c = (search rules, search rules, search rules, search rules, met_none _ _ _ _ _ _ _ _ _ (cleared c.args.room c.fill.new.self _ (search rules)))
 
 pub demand_next-requires : goal.demand_next-requires
 demand_next-requires c = let p = c.requires in (p.los, p.froms, left_over _ _ _ _ c.loop-i-test.true)
-
-pub bounds-lo-x : goal.bounds-lo-x
-bounds-lo-x c =
-    let h = c.demand_next.ensures.demand c.if-demand_next.true in
-    omega (arith, fits c.requires.los _ h c.index-x.ensures)
 
 pub take_demand-requires : goal.take_demand-requires
 take_demand-requires c =
@@ -35,11 +31,6 @@ loop-i-preserved-then-demand_next c =
     let p = c.requires in
     let s = c.loop-i.invariant in
     (omega arith, omega arith, search rules, search rules, met_demand _ _ _ _ _ _ _ _ _ _ s.4 p.rising h _ c.index-x.ensures _ _ c.take_demand.ensures)
-
-pub bounds-from-y : goal.bounds-from-y
-bounds-from-y c =
-    let h = c.demand_next.ensures.supply c.if-demand_next.false in
-    omega (arith, fits c.requires.froms _ h c.index-y.ensures)
 
 pub take_supply-d-requires : goal.take_supply-d-requires
 take_supply-d-requires c =
@@ -62,4 +53,4 @@ loop-i-preserved c =
 
 pub returns : goal.returns
 returns c =
-    met_end _ _ _ _ _ _ _ _ _ _ _ _ _ c.loop-i.invariant.4 (all_done _ _ c.loop-i.j (length c.args.supplies.now) c.loop-i-test.false) _ c.unmet.ensures
+    met_end _ _ _ _ _ _ _ _ _ _ _ _ _ c.loop-i.invariant.4 (all_done _ _ c.loop-i.j (length c.args.supplies.order.now) c.loop-i-test.false) _ c.unmet.ensures

@@ -1,10 +1,7 @@
--- `places::units::up_from` meets its contract: all months before number m start before the day. The measure is what is left of the table.
-use Prim.Native.Nat.{ℕ, ◌≤◌, ◌<◌, ◌-◌}
+-- `places::units::up_from` meets its contract: all months before number m start before the day.
+use Prim.Native.Nat.{ℕ, ◌<◌}
 use Rattle.calendar.specs.Gregorian.{month_start}
 use Rattle.places.proofs.units.up_from.Given as goal
 
 abbrev pub invariant-loop-m : goal.invariant-loop-m
-invariant-loop-m l = (l.m ≤ 1200) × ((j : ℕ) → j < l.m → month_start j < l.day)
-
-abbrev pub decreases-loop-m : goal.decreases-loop-m
-decreases-loop-m l = 1200 - l.m
+invariant-loop-m l = (j : ℕ) → j < l.m → month_start j < l.day

@@ -9,7 +9,7 @@ use Rattle.meaning.specs.Select.{reads}
 use Rattle.meaning.proofs.Tables.{rule_row}
 use Rattle.marks.specs.Marks.{Marks}
 use Rattle.descent.proofs.Linking.{linked}
-use Rattle.plain.specs.Laid.{Laid}
+use Rattle.plain.specs.Laid.{LaidOf}
 use Rattle.plain.specs.Walking.{Stopped}
 use Rattle.plain.proofs.opened.judge_columns.Goals as goal
 use Rattle.plain.proofs.opened.judge_columns.Goals.{After-first_failing-stop}
@@ -17,7 +17,7 @@ use Rattle.plain.proofs.opened.judge_columns.Goals.{After-first_failing-stop}
 -- what the rule reads is marked, and where the walk stopped
 walked : (c : After-first_failing-stop) (doc : Doc) (q : Rule) →
     let a = c.args in
-    Laid doc a.kind.now a.vkind.now a.name.now a.parent.now a.begin.now a.end.now a.value.now
+    LaidOf doc a.records
     → (is_reference a.r ≡ true → a.other ≡ q) → (is_reference a.r ≡ false → a.other ≡ a.r)
     → Marks (reads doc q a.r) doc.size c.mark_read-read.result × Stopped doc q a.r c.first_failing-stop.result
 walked c doc q laid referred itself =

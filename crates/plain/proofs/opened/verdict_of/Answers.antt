@@ -14,27 +14,6 @@ returns-then-r-ne0 c nodes o =
 pub referred_rule-other-requires : goal.referred_rule-other-requires
 referred_rule-other-requires c = let p = c.requires in (p.1.1.table, p.0)
 
-pub slice_bounds-judge_columns-end : goal.slice_bounds-judge_columns-end
-slice_bounds-judge_columns-end c = c.requires.1.1.kind
-
-pub slice_bounds-judge_columns-end-2 : goal.slice_bounds-judge_columns-end-2
-slice_bounds-judge_columns-end-2 c = c.requires.1.1.vkind
-
-pub slice_bounds-judge_columns-end-3 : goal.slice_bounds-judge_columns-end-3
-slice_bounds-judge_columns-end-3 c = c.requires.1.1.name
-
-pub slice_bounds-judge_columns-end-4 : goal.slice_bounds-judge_columns-end-4
-slice_bounds-judge_columns-end-4 c = c.requires.1.1.parent
-
-pub slice_bounds-judge_columns-end-5 : goal.slice_bounds-judge_columns-end-5
-slice_bounds-judge_columns-end-5 c = c.requires.1.1.begin
-
-pub slice_bounds-judge_columns-end-6 : goal.slice_bounds-judge_columns-end-6
-slice_bounds-judge_columns-end-6 c = c.requires.1.1.end
-
-pub slice_bounds-judge_columns-end-7 : goal.slice_bounds-judge_columns-end-7
-slice_bounds-judge_columns-end-7 c = c.requires.1.1.value
-
 pub judge_columns-requires : goal.judge_columns-requires
 judge_columns-requires c =
     let table = c.requires.1.1.table in

@@ -7,10 +7,7 @@ use Rattle.prepare.proofs.Holding.{tree-few, filled-holders}
 use Rattle.prepare.proofs.fields.holders.Goals as goal
 
 pub loop-i-init : goal.loop-i-init
-loop-i-init c = (omega arith, refl, λ doc t. filled_none _ _)
-
-pub holder-requires : goal.holder-requires
-holder-requires c = (c.loop-i-test.true, c.requires)
+loop-i-init c = (refl, λ doc t. filled_none _ _)
 
 pub offset_bounds-out-i : goal.offset_bounds-out-i
 offset_bounds-out-i c = omega (arith, tree-few _ _ _ c.requires)
@@ -22,10 +19,10 @@ pub loop-i-preserved : goal.loop-i-preserved
 loop-i-preserved c =
     let s = c.loop-i in
     let few = tree-few _ _ _ c.requires in
-    (omega arith, simp length-set s.invariant.1, λ doc t. filled-store _ (s.invariant.2 doc t) (omega arith) _ (c.holder.ensures doc _ t refl))
+    (simp length-set s.invariant.0, λ doc t. filled-store _ (s.invariant.1 doc t) (omega arith) _ (c.holder.ensures doc _ t refl))
 
 pub returns : goal.returns
 returns c =
     let s = c.loop-i in
     let few = tree-few _ _ _ c.requires in
-    λ doc t. filled-holders doc _ _ _ (s.invariant.2 doc t) (omega (arith, t.kind.size)) (omega (arith, t.kind.size))
+    λ doc t. filled-holders doc _ _ _ (s.invariant.1 doc t) (omega (arith, t.kind.size)) (omega (arith, t.kind.size))

@@ -1,5 +1,4 @@
 -- `prepare::reads::mark_by` meets its contract: below i each record has its mark.
-use Prim.Native.Nat.{◌≤◌, ◌-◌}
 use mathlib.Core.Path.{◌≡◌}
 use lib.ListN.{length}
 use Rattle.meaning.specs.declared.Rule.{Rule}
@@ -11,8 +10,5 @@ use Rattle.prepare.proofs.Filling.{Filled, Marked}
 use Rattle.prepare.proofs.reads.mark_by.Given as goal
 
 abbrev pub invariant-loop-i : goal.invariant-loop-i
-invariant-loop-i l = (l.i ≤ l.n) × (length l.marks ≡ length l.initial.marks)
+invariant-loop-i l = (length l.marks ≡ length l.initial.marks)
     × ((doc : Doc) (rule : Rule) → doc.size ≡ l.n → Marks (selected doc rule) doc.size l.chosen → Holders doc rule l.holder → Filled (Marked (reads_own doc rule)) l.i l.marks)
-
-abbrev pub decreases-loop-i : goal.decreases-loop-i
-decreases-loop-i l = l.n - l.i

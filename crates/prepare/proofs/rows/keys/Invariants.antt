@@ -1,5 +1,4 @@
 -- `prepare::rows::keys` meets its contract: below f each record has its key.
-use Prim.Native.Nat.{◌≤◌, ◌-◌}
 use mathlib.Core.Path.{◌≡◌}
 use lib.IntN.{pos}
 use lib.ListN.{length}
@@ -13,9 +12,6 @@ use Rattle.prepare.proofs.Keying.{KeyOf}
 use Rattle.prepare.proofs.rows.keys.Given as goal
 
 abbrev pub invariant-loop-f : goal.invariant-loop-f
-invariant-loop-f l = (l.f ≤ length l.vkind) × (length l.out ≡ length l.initial.out)
+invariant-loop-f l = (length l.out ≡ length l.initial.out)
     × ((doc : Doc) → Lends doc.size doc.vkind 0 l.vkind → Lends doc.size doc.value (pos 0) l.value
     → Marks (selected doc l.rule) doc.size l.chosen → Holders doc l.rule l.holder → Filled (KeyOf doc l.rule) l.f l.out)
-
-abbrev pub decreases-loop-f : goal.decreases-loop-f
-decreases-loop-f l = length l.vkind - l.f

@@ -1,5 +1,5 @@
 -- `prepare::rows::way_along` meets its contract: the way is laid from i on, and `at` is the nearest marked record from there.
-use Prim.Native.Nat.{ℕ, ◌≤◌}
+use Prim.Native.Nat.{ℕ}
 use mathlib.Core.Path.{◌≡◌}
 use lib.ListN.{length}
 use mathlib.Core.Bool.{Bool}
@@ -8,7 +8,5 @@ use Rattle.prepare.proofs.Skipping.{Laid}
 use Rattle.prepare.proofs.rows.way_along.Given as goal
 
 abbrev pub invariant-loop-i : goal.invariant-loop-i
-invariant-loop-i l = (l.i ≤ l.n) × (length l.next ≡ length l.initial.next) × ((passes : ℕ → Bool) → Marks passes l.n l.marks → Laid passes l.n l.i l.at l.next)
-
-abbrev pub decreases-loop-i : goal.decreases-loop-i
-decreases-loop-i l = l.i
+invariant-loop-i l = (length l.next ≡ length l.initial.next)
+    × ((passes : ℕ → Bool) → Marks passes l.n l.marks → Laid passes l.n l.i l.at l.next)

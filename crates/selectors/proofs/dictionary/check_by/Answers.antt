@@ -14,32 +14,32 @@ returns-in_default c =
     upto_bad c.loop-at.invariant.1 c.loop-at-test.true (sym c.line_at.ensures ∙ c.in_default.is)
 
 pub slice_bounds-stood-count : goal.slice_bounds-stood-count
-slice_bounds-stood-count c = omega (arith, (line_read _ _ (sym c.in-Entry.ensures)).begun)
+slice_bounds-stood-count c = omega (arith, (line_read _ _ (sym c.in-Some.ensures)).begun)
 
 pub slice_bounds-stood-start : goal.slice_bounds-stood-start
-slice_bounds-stood-start c = omega (arith, (line_read _ _ (sym c.in-Entry.ensures)).begun)
+slice_bounds-stood-start c = omega (arith, (line_read _ _ (sym c.in-Some.ensures)).begun)
 
 pub slice_bounds-stood-end : goal.slice_bounds-stood-end
-slice_bounds-stood-end c = let r = line_read _ _ (sym c.in-Entry.ensures) in omega (arith, r.begun, r.before, r.inside)
+slice_bounds-stood-end c = let r = line_read _ _ (sym c.in-Some.ensures) in omega (arith, r.begun, r.before, r.inside)
 
 pub stood-requires : goal.stood-requires
 stood-requires c = (c.loop-at.invariant.1.sifted, c.requires.1)
 
 pub returns-then-stood : goal.returns-then-stood
 returns-then-stood c =
-    upto_twice c.loop-at.invariant.1 (line_read _ _ (sym c.in-Entry.ensures)) (sym c.stood.ensures.again ∙ c.if-stood.true)
+    upto_twice c.loop-at.invariant.1 (line_read _ _ (sym c.in-Some.ensures)) (sym c.stood.ensures.again ∙ c.if-stood.true)
 
 pub overflow_add-k : goal.overflow_add-k
 overflow_add-k c = record { fits = omega (arith, upto_fits c.loop-at.invariant.1) }
 
 pub loop-at-smaller : goal.loop-at-smaller
-loop-at-smaller c = let r = line_read _ _ (sym c.in-Entry.ensures) in omega (arith, r.begun, r.before, r.inside)
+loop-at-smaller c = let r = line_read _ _ (sym c.in-Some.ensures) in omega (arith, r.begun, r.before, r.inside)
 
 pub loop-at-preserved : goal.loop-at-preserved
 loop-at-preserved c =
     let loop = c.loop-at in
     let took = c.stood.ensures.took in
-    (omega (arith, took.size, loop.invariant.0), upto_next loop.invariant.1 (line_read _ _ (sym c.in-Entry.ensures)) (sym c.stood.ensures.again ∙ c.if-stood.false) took)
+    (omega (arith, took.size, loop.invariant.0), upto_next loop.invariant.1 (line_read _ _ (sym c.in-Some.ensures)) (sym c.stood.ensures.again ∙ c.if-stood.false) took)
 
 pub returns : goal.returns
 returns c = upto_end c.loop-at.invariant.1 c.loop-at-test.false

@@ -28,22 +28,23 @@ returns-then-not-stands c =
 pub overflow_add-end : goal.overflow_add-end
 overflow_add-end c = record { fits = omega (arith, stands-inside _ _ _ (space-there (goal.at.overflow_add-end c).Else-not-stands)) }
 
-pub returns-in_default : goal.returns-in_default
-returns-in_default c =
-    line-unnumbered _ _ c.run_end-end.ensures (begins-there (goal.at.returns-in_default c).Else-not-begins) (space-there (goal.at.returns-in_default c).Else-not-stands)
-    (sym c.number_at.ensures ∙ c.in_default.is)
+pub returns-in_err-value : goal.returns-in_err-value
+returns-in_err-value c =
+    rw c.from_residual.ensures
+    (line-unnumbered _ _ c.run_end-end.ensures (begins-there (goal.at.returns-in_err-value c).Else-not-begins) (space-there (goal.at.returns-in_err-value c).Else-not-stands)
+    (sym c.number_at.ensures ∙ c.in_err-value.was))
 
 pub returns-then-value-eq0 : goal.returns-then-value-eq0
 returns-then-value-eq0 c =
     line-zero _ _ c.run_end-end.ensures (begins-there (goal.at.returns-then-value-eq0 c).Else-not-begins) (space-there (goal.at.returns-then-value-eq0 c).Else-not-stands)
-    (sym c.in-Number.ensures)
+    (sym c.in_ok-value.ensures)
     c.if-value-eq0.true
 
-pub overflow_cast-result : goal.overflow_cast-result
-overflow_cast-result c = record { fits = omega (arith, number-most _ _ _ _ (sym c.in-Number.ensures)) }
+pub overflow_cast-number : goal.overflow_cast-number
+overflow_cast-number c = record { fits = omega (arith, number-most _ _ _ _ (sym c.in_ok-value.ensures)) }
 
 pub returns : goal.returns
 returns c =
     line-whole _ _ c.run_end-end.ensures (begins-there (goal.at.returns c).Else-not-begins) (space-there (goal.at.returns c).Else-not-stands)
-    (sym c.in-Number.ensures)
+    (sym c.in_ok-value.ensures)
     c.if-value-eq0.false

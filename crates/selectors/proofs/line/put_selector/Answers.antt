@@ -4,14 +4,14 @@ use Rattle.spelling.proofs.Pieces.{puts_then}
 use Rattle.selectors.proofs.Spacing.{path-line, refused_line_lem}
 use Rattle.selectors.proofs.line.put_selector.Goals as goal
 
-pub returns-in-Path : goal.returns-in-Path
+pub returns-in-Ok : goal.returns-in-Ok
 unfolding word
-returns-in-Path c =
+returns-in-Ok c =
     path-line _
     (puts_then
     (puts_then (puts_then (puts_then c.put-word.ensures c.put_path-numbers.ensures) c.put-length.ensures) c.put_next-end.ensures)
     c.put.ensures)
-    c.in-Path.is
+    c.in-Ok.is
 
-pub returns-in-Refused : goal.returns-in-Refused
-returns-in-Refused c = refused_line_lem _ c.put_refusal.ensures c.in-Refused.is
+pub returns-in-Err : goal.returns-in-Err
+returns-in-Err c = refused_line_lem _ c.put_refusal.ensures c.in-Err.is

@@ -6,14 +6,14 @@ use Rattle.selectors.specs.Sieve.{key_of}
 use Rattle.selectors.proofs.Sieves.{key_step, key-end}
 use Rattle.selectors.proofs.sieve.key_of.Goals as goal
 
-pub loop-i-init : goal.loop-i-init
+pub loop-x-init : goal.loop-x-init
 unfolding key_of
-loop-i-init c = search rules
+loop-x-init c = search rules
 
-pub loop-i-preserved : goal.loop-i-preserved
-loop-i-preserved c =
-    let s = c.loop-i in
-    (search rules, mod-lt _ (omega arith), key_step _ _ _ _ s.invariant.2 c.loop-i-test.true)
+pub loop-x-preserved : goal.loop-x-preserved
+loop-x-preserved c =
+    let s = c.loop-x in
+    (mod-lt _ (omega arith), rw c.from.ensures (key_step _ _ _ _ s.invariant.1 c.loop-x-test.true))
 
 pub returns : goal.returns
-returns c = key-end _ _ _ _ c.loop-i.invariant.2 c.loop-i-test.false
+returns c = key-end _ _ _ _ c.loop-x.invariant.1 c.loop-x-test.false

@@ -21,4 +21,4 @@ pub returns : goal.returns
 returns c =
     let l = c.loop-end in
     let none = stop_past 47 c.args.text.now l.end c.loop-end-test.false in
-    (omega (arith, none, l.invariant.1), l.invariant.0)
+    (omega (arith, none, l.invariant.0, l.invariant.1), omega arith)

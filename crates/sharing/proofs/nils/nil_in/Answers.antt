@@ -17,6 +17,6 @@ unfolding is_nil
 returns c =
     let marks = c.known_marks-known.ensures.1 in
     λ doc r w ready lent valued_only e i.
-    nil_answer _ _ _ _ _ _ _ _ _ doc r r w ready valued_only e i _
+    nil_answer c.args.trail c.args.stretch doc r r w ready valued_only e i _
     (λ y h. marks y (omega (arith, lent.size)) ∙ ap (λ k. not (eqb k 3)) (lent.at y))
     (c.first_missing.ensures doc r ready)

@@ -3,7 +3,7 @@ use mathlib.Core.Path.{refl, sym, ◌∙◌}
 use Rattle.sharing.proofs.Descent.{down_less}
 use Rattle.sharing.proofs.Claiming.{value_room, claiming_start, claiming_skip, claiming_take, claiming_hit, claiming_end}
 use Rattle.sharing.proofs.row.claim.Goals as goal
-use Rattle.sharing.proofs.row.claim.Goals.{then-present+else-take_value, else-present}
+use Rattle.sharing.proofs.row.claim.Goals.{then-has+else-take_value, else-has}
 
 pub loop-at-init : goal.loop-at-init
 loop-at-init c =
@@ -19,7 +19,7 @@ returns-then-take_value c =
     let t = c.take_value.ensures in
     λ row ch.
     rw (t.kept c.if-take_value.true)
-    (claiming_hit _ _ _ _ _ _ _ _ _ _ _ c.loop-at.invariant c.loop-at-test.true _ refl (sym c.present.ensures ∙ c.if-present.true) (sym t.answers ∙ c.if-take_value.true) row ch)
+    (claiming_hit _ _ _ _ _ _ _ _ _ _ _ c.loop-at.invariant c.loop-at-test.true _ refl (sym c.has.ensures ∙ c.if-has.true) (sym t.answers ∙ c.if-take_value.true) row ch)
 
 pub loop-at-smaller : goal.loop-at-smaller
 loop-at-smaller c =
@@ -30,14 +30,14 @@ loop-at-preserved c =
     let p = c.requires in
     let s = c.loop-at.invariant in
     let h = c.loop-at-test.true in
-    let is = c.present.ensures in
-    elim c.if-present.branch [
-      | then-present+else-take_value w ↦
+    let is = c.has.ensures in
+    elim c.if-has.branch [
+      | then-has+else-take_value w ↦
           let t = w.take_value.ensures in
           let f = w.if-take_value.false in
-          claiming_take _ _ _ _ _ _ _ _ _ _ _ s p.chain h _ c.index-at.ensures _ _ (sym is ∙ w.if-present.true) _ refl (sym t.answers ∙ f)
+          claiming_take _ _ _ _ _ _ _ _ _ _ _ s p.chain h _ c.index-at.ensures _ _ (sym is ∙ w.if-has.true) _ refl (sym t.answers ∙ f)
           (value_room _ _ _ _ _ p.rooms _ s.0.0 h s.1.size).1 (w.owner-is ∙ t.put f) w.bare-is
-      | else-present w ↦ claiming_skip _ _ _ _ _ _ _ _ _ _ _ s p.chain h _ c.index-at.ensures _ _ (sym is ∙ w.if-present.false) w.owner-is w.bare-is
+      | else-has w ↦ claiming_skip _ _ _ _ _ _ _ _ _ _ _ s p.chain h _ c.index-at.ensures _ _ (sym is ∙ w.if-has.false) w.owner-is w.bare-is
     ]
 
 pub returns : goal.returns

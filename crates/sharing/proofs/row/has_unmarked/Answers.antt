@@ -13,12 +13,12 @@ pub bounds-seen-x : goal.bounds-seen-x
 bounds-seen-x c =
     omega (arith, (entry _ _ _ _ _ c.requires.rooms _ c.loop-at.invariant.0.0 c.loop-at-test.true _ c.index-x.ensures).1)
 
-pub returns-then-present-seen : goal.returns-then-present-seen
+pub returns-then-has-seen : goal.returns-then-has-seen
 unfolding asks
-returns-then-present-seen c =
+returns-then-has-seen c =
     λ row ch.
     searched_hit _ _ _ _ _ c.loop-at.invariant row ch c.loop-at-test.true
-    (unmarked_tested _ _ c.args.seen.now _ _ _ c.present.ensures c.index-x.ensures c.if-present-seen.true)
+    (unmarked_tested _ _ c.args.seen.now _ _ _ c.has.ensures c.index-x.ensures c.if-has-seen.true)
 
 pub loop-at-smaller : goal.loop-at-smaller
 loop-at-smaller c =
@@ -27,7 +27,7 @@ loop-at-smaller c =
 pub loop-at-preserved : goal.loop-at-preserved
 loop-at-preserved c =
     searched_next _ _ _ _ c.requires.chain _ c.loop-at.invariant c.loop-at-test.true _ c.index-at.ensures
-    (unmarked_tested _ _ c.args.seen.now _ _ _ c.present.ensures c.index-x.ensures c.if-present-seen.false)
+    (unmarked_tested _ _ c.args.seen.now _ _ _ c.has.ensures c.index-x.ensures c.if-has-seen.false)
 
 pub returns : goal.returns
 unfolding asks

@@ -5,7 +5,7 @@ use Rattle.sharing.proofs.Searching.{entry}
 use Rattle.sharing.proofs.Descent.{stepped, down_start, down_less, down_next}
 use Rattle.sharing.proofs.Laying.{layed_start, layed_skip, layed_set, layed_end}
 use Rattle.sharing.proofs.row.lay.Goals as goal
-use Rattle.sharing.proofs.row.lay.Goals.{then-present, else-present}
+use Rattle.sharing.proofs.row.lay.Goals.{then-has, else-has}
 
 pub loop-at-init : goal.loop-at-init
 loop-at-init c =
@@ -25,12 +25,12 @@ loop-at-preserved c =
     let p = c.requires in
     let s = c.loop-at in
     let h = c.loop-at-test.true in
-    let is = c.present.ensures in
+    let is = c.has.ensures in
     let down = stepped _ _ _ _ s.invariant.0 h _ c.index-at.ensures in (
       down_next _ _ _ p.chain _ s.invariant.0 h _ c.index-at.ensures,
-      elim c.if-present.branch [
-        | then-present w ↦ layed_set _ _ _ _ _ _ _ _ _ s.invariant.1 _ down (sym is ∙ w.if-present.true) _ w.index-y.ensures (omega (arith, (entry _ _ _ _ _ p.rooms _ s.invariant.0.0 h _ w.index-y.ensures).1, s.invariant.1.size)) _ w.seen-is
-        | else-present w ↦ layed_skip _ _ _ _ _ _ _ _ _ s.invariant.1 _ down (sym is ∙ w.if-present.false) _ w.seen-is
+      elim c.if-has.branch [
+        | then-has w ↦ layed_set _ _ _ _ _ _ _ _ _ s.invariant.1 _ down (sym is ∙ w.if-has.true) _ w.index-y.ensures (omega (arith, (entry _ _ _ _ _ p.rooms _ s.invariant.0.0 h _ w.index-y.ensures).1, s.invariant.1.size)) _ w.seen-is
+        | else-has w ↦ layed_skip _ _ _ _ _ _ _ _ _ s.invariant.1 _ down (sym is ∙ w.if-has.false) _ w.seen-is
       ],
     )
 

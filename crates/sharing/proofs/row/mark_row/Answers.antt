@@ -12,10 +12,10 @@ lay-requires c =
       chain = (p.chain.0, chain-from _ _ _ _ _ c.index.ensures p.chain.1);
     }
 
-pub returns-then-present : goal.returns-then-present
-returns-then-present c =
-    let here = sym c.present.ensures ∙ c.if-present.true in
+pub returns-then-has : goal.returns-then-has
+returns-then-has c =
+    let here = sym c.has.ensures ∙ c.if-has.true in
     λ row ch. marked-present _ _ _ row _ _ here _ (c.lay.ensures row (chain-from _ _ _ _ _ c.index.ensures ch))
 
-pub returns-else-present : goal.returns-else-present
-returns-else-present c = λ row ch. marked-absent _ _ _ row _ _ (sym c.present.ensures ∙ c.if-present.false)
+pub returns-else-has : goal.returns-else-has
+returns-else-has c = λ row ch. marked-absent _ _ _ row _ _ (sym c.has.ensures ∙ c.if-has.false)

@@ -4,8 +4,8 @@ use Rattle.day.proofs.Tallying.{chain-from}
 use Rattle.sharing.proofs.Meeting.{room_of, absent_test, present-test}
 use Rattle.sharing.proofs.row.row_misses.Goals as goal
 
-pub returns-then-not-present : goal.returns-then-not-present
-returns-then-not-present c = λ row ch. absent_test _ _ (sym c.present.ensures ∙ c.if-not-present.true)
+pub returns-then-not-has : goal.returns-then-not-has
+returns-then-not-has c = λ row ch. absent_test _ _ (sym c.has.ensures ∙ c.if-not-has.true)
 
 pub has_unmarked-requires : goal.has_unmarked-requires
 has_unmarked-requires c =
@@ -17,5 +17,5 @@ has_unmarked-requires c =
 
 pub returns : goal.returns
 returns c =
-    let here = sym c.present.ensures ∙ c.if-not-present.false in
+    let here = sym c.has.ensures ∙ c.if-not-has.false in
     λ row ch. present-test _ _ _ here (c.has_unmarked.ensures row (chain-from _ _ _ _ _ c.index.ensures ch))

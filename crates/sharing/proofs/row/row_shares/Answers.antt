@@ -4,8 +4,8 @@ use Rattle.day.proofs.Tallying.{chain-from}
 use Rattle.sharing.proofs.Meeting.{room_of, met_absent, met_claimed}
 use Rattle.sharing.proofs.row.row_shares.Goals as goal
 
-pub returns-then-not-present : goal.returns-then-not-present
-returns-then-not-present c = λ row ch. met_absent _ _ _ row _ _ _ _ (sym c.present.ensures ∙ c.if-not-present.true)
+pub returns-then-not-has : goal.returns-then-not-has
+returns-then-not-has c = λ row ch. met_absent _ _ _ row _ _ _ _ (sym c.has.ensures ∙ c.if-not-has.true)
 
 pub claim-requires : goal.claim-requires
 claim-requires c =
@@ -17,5 +17,5 @@ claim-requires c =
 
 pub returns : goal.returns
 returns c =
-    let here = sym c.present.ensures ∙ c.if-not-present.false in
+    let here = sym c.has.ensures ∙ c.if-not-has.false in
     λ row ch. met_claimed _ _ _ row _ _ _ _ here _ _ (c.claim.ensures row (chain-from _ _ _ _ _ c.index.ensures ch))

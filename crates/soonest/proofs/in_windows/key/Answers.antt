@@ -1,4 +1,6 @@
 -- `soonest::in_windows::key` meets its contract: the sooner of two places serves for both.
+use Prim.Native.Nat.{◌≤◌}
+use native.Mathlib.Omega.{arith}
 use Rattle.parts.proofs.Earlier.{few-earlier, shared_earlier}
 use Rattle.soonest.proofs.Finding.{numbered-small}
 use borrow.Author.Rules.{rules}
@@ -21,7 +23,8 @@ shared-requires c =
 
 pub returns : goal.returns
 returns c =
-    let s = c.sooner.ensures in (
-      (_, c.numbered.ensures, few-earlier _ _ _ _ s.0 _ _ _ _ c.lacking-none.ensures),
-      (_, c.class_keys.ensures, shared_earlier _ _ _ _ s.1 _ _ _ c.shared.ensures),
+    let early : c.min.result ≤ c.lacking-none.result = omega (arith, c.min.ensures) in
+    let early' : c.min.result ≤ c.shared.result = omega (arith, c.min.ensures) in (
+      (_, c.numbered.ensures, few-earlier _ _ _ _ early _ _ _ _ c.lacking-none.ensures),
+      (_, c.class_keys.ensures, shared_earlier _ _ _ _ early' _ _ _ c.shared.ensures),
     )

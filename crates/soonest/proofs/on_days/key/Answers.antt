@@ -1,4 +1,6 @@
 -- `soonest::on_days::key` meets its contract: the sooner of two places serves for both.
+use Prim.Native.Nat.{◌≤◌}
+use native.Mathlib.Omega.{arith}
 use Rattle.parts.proofs.Earlier.{few-earlier, twice_earlier, shared_earlier}
 use borrow.Author.Rules.{rules}
 use Rattle.soonest.proofs.on_days.key.Goals as goal
@@ -8,9 +10,10 @@ unique-requires c = let p = c.requires in (p.0, p.2, p.3, p.4, search (rules, p.
 
 pub returns : goal.returns
 returns c =
-    let s = c.sooner.ensures in
+    let early : c.min.result ≤ c.lacking-none.result = omega (arith, c.min.ensures) in
+    let early' : c.min.result ≤ c.unique.result = omega (arith, c.min.ensures) in
     let u = c.unique.ensures in (
-      few-earlier _ _ _ _ s.0 _ _ _ _ c.lacking.ensures,
-      twice_earlier _ _ _ _ s.1 _ u.0,
-      shared_earlier _ _ _ _ s.1 _ _ _ u.1,
+      few-earlier _ _ _ _ early _ _ _ _ c.lacking-none.ensures,
+      twice_earlier _ _ _ _ early' _ u.0,
+      shared_earlier _ _ _ _ early' _ _ _ u.1,
     )

@@ -11,5 +11,5 @@ use Rattle.steps.proofs.levels.level_at.Goals as goal
 
 pub returns : goal.returns
 returns c =
-    let g : mag (get_or c.args.value.now c.args.p (pos 0)) < 2147483648 = omega arith in
+    let g : mag (get_or c.args.records.value.now c.args.p (pos 0)) < 2147483648 = omega arith in
     (level-heard _ _ _ _ _ _ _ (given w32 g) c.level_of.ensures, g)

@@ -7,7 +7,7 @@ use Rattle.steps.proofs.Levelling.{level-is, filled-levelled}
 use Rattle.steps.proofs.levels.levels.Goals as goal
 
 pub loop-j-init : goal.loop-j-init
-loop-j-init c = (omega arith, refl, filled_none _ _)
+loop-j-init c = (refl, filled_none _ _)
 
 pub level_at-requires : goal.level_at-requires
 level_at-requires c =
@@ -21,7 +21,7 @@ pub loop-j-preserved : goal.loop-j-preserved
 loop-j-preserved c =
     let p = c.requires in
     let e = c.level_at.ensures in
-    (omega arith, simp length-set c.loop-j.invariant.1, filled-store _ c.loop-j.invariant.2 (omega (arith, p.3.few)) _ (level-is _ _ _ _ _ _ _ _ _ c.index.ensures e.0 e.1))
+    (simp length-set c.loop-j.invariant.0, filled-store _ c.loop-j.invariant.1 (omega (arith, p.3.few)) _ (level-is _ _ _ _ _ _ _ _ _ c.index.ensures e.0 e.1))
 
 pub returns : goal.returns
-returns c = let p = c.requires in filled-levelled _ _ _ _ _ _ _ _ c.loop-j.invariant.2 (omega arith) (omega (arith, p.3.few))
+returns c = let p = c.requires in filled-levelled _ _ _ _ _ _ _ _ c.loop-j.invariant.1 (omega arith) (omega (arith, p.3.few))

@@ -1,5 +1,4 @@
 -- `steps::places::answers` meets its contract: below f each record has its reach.
-use Prim.Native.Nat.{◌≤◌, ◌-◌}
 use mathlib.Core.Path.{◌≡◌}
 use lib.ListN.{length, get_or}
 use Rattle.prepare.proofs.Filling.{Filled}
@@ -7,7 +6,4 @@ use Rattle.steps.specs.Places.{settled_as}
 use Rattle.steps.proofs.places.answers.Given as goal
 
 abbrev pub invariant-loop-f : goal.invariant-loop-f
-invariant-loop-f l = (l.f ≤ length l.vkind) × (length l.out ≡ length l.initial.out) × Filled (λ k x. x ≡ settled_as (get_or l.key k 0) (length l.vkind) (get_or l.vkind k 0) (get_or l.until k 0) (get_or l.parting k 0)) l.f l.out
-
-abbrev pub decreases-loop-f : goal.decreases-loop-f
-decreases-loop-f l = length l.vkind - l.f
+invariant-loop-f l = (length l.out ≡ length l.initial.out) × Filled (λ k x. x ≡ settled_as (get_or l.key k 0) (length l.vkind) (get_or l.vkind k 0) (get_or l.until k 0) (get_or l.parting k 0)) l.f l.out

@@ -7,7 +7,7 @@ use Rattle.groups.specs.Classes.{class_at}
 use Rattle.steps.proofs.places.class_places.Goals as goal
 
 pub loop-j-init : goal.loop-j-init
-loop-j-init c = (omega arith, refl, filled_none _ _)
+loop-j-init c = (refl, filled_none _ _)
 
 pub class_of_key-requires : goal.class_of_key-requires
 class_of_key-requires c =
@@ -20,7 +20,7 @@ bounds-out-j c = let p = c.requires in omega (arith, p.2.few)
 pub loop-j-preserved : goal.loop-j-preserved
 loop-j-preserved c =
     let p = c.requires in
-    (omega arith, simp length-set c.loop-j.invariant.1, filled-store _ c.loop-j.invariant.2 (omega (arith, p.2.few)) _ (c.class_of_key.ensures ∙ ap (λ x. class_at c.args.group.now c.args.n (get_or c.args.key.now x 0)) c.index.ensures))
+    (simp length-set c.loop-j.invariant.0, filled-store _ c.loop-j.invariant.1 (omega (arith, p.2.few)) _ (c.class_of_key.ensures ∙ ap (λ x. class_at c.args.group.now c.args.n (get_or c.args.key.now x 0)) c.index.ensures))
 
 pub returns : goal.returns
-returns c = (c.loop-j.invariant.1, λ j h. c.loop-j.invariant.2.entry j (omega arith))
+returns c = (c.loop-j.invariant.0, λ j h. c.loop-j.invariant.1.entry j (omega arith))

@@ -6,12 +6,12 @@ use Rattle.prepare.proofs.Filling.{filled_none, filled-store}
 use Rattle.steps.proofs.places.lasts.Goals as goal
 
 pub loop-f-init : goal.loop-f-init
-loop-f-init c = (omega arith, refl, filled_none _ _)
+loop-f-init c = (refl, filled_none _ _)
 
 pub loop-f-preserved : goal.loop-f-preserved
 loop-f-preserved c =
     let p = c.requires in
-    (omega arith, simp length-set c.loop-f.invariant.1, filled-store _ c.loop-f.invariant.2 (omega (arith, p.0)) _ (c.last_of.ensures ∙ ap (λ x. get_or c.args.last.now x 0) c.class_of_key.ensures))
+    (simp length-set c.loop-f.invariant.0, filled-store _ c.loop-f.invariant.1 (omega (arith, p.0)) _ (c.last_of.ensures ∙ ap (λ x. get_or c.args.last.now x 0) c.class_of_key.ensures))
 
 pub returns : goal.returns
-returns c = (c.loop-f.invariant.1, λ j h. c.loop-f.invariant.2.entry j (omega arith))
+returns c = (c.loop-f.invariant.0, λ j h. c.loop-f.invariant.1.entry j (omega arith))

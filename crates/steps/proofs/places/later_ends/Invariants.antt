@@ -1,5 +1,4 @@
 -- `steps::places::later_ends` meets its contract: below f each record has the end at the later of its two places.
-use Prim.Native.Nat.{◌≤◌, ◌-◌}
 use mathlib.Core.Path.{◌≡◌}
 use lib.ListN.{length, get_or}
 use Rattle.prepare.proofs.Filling.{Filled}
@@ -8,7 +7,4 @@ use Rattle.steps.specs.Places.{end_at}
 use Rattle.steps.proofs.places.later_ends.Given as goal
 
 abbrev pub invariant-loop-f : goal.invariant-loop-f
-invariant-loop-f l = (l.f ≤ l.n) × (length l.out ≡ length l.initial.out) × Filled (λ k x. x ≡ end_at l.end l.order (greater (get_or l.above k 0) (get_or l.beneath k 0))) l.f l.out
-
-abbrev pub decreases-loop-f : goal.decreases-loop-f
-decreases-loop-f l = l.n - l.f
+invariant-loop-f l = (length l.out ≡ length l.initial.out) × Filled (λ k x. x ≡ end_at l.end l.order (greater (get_or l.above k 0) (get_or l.beneath k 0))) l.f l.out

@@ -8,10 +8,10 @@ use Rattle.steps.proofs.Calming.{spanned_none, spanned_on, spanned_all}
 use Rattle.steps.proofs.spans.span_of.Goals as goal
 
 pub loop-f-init : goal.loop-f-init
-loop-f-init c = (omega arith, spanned_none _ _ _)
+loop-f-init c = spanned_none _ _ _
 
 pub loop-f-preserved : goal.loop-f-preserved
-loop-f-preserved c = (omega arith, spanned_on _ _ _ _ _ _ _ _ c.loop-f.invariant.1 _ (given w32 {z = get_or c.args.value.now c.loop-f.f (pos 0)} (omega arith)) c.widened-span.ensures)
+loop-f-preserved c = spanned_on _ _ _ _ _ _ _ _ c.loop-f.invariant _ (given w32 {z = get_or c.args.value.now c.loop-f.f (pos 0)} (omega arith)) c.widened-span.ensures
 
 pub returns : goal.returns
-returns c = let s = c.loop-f in spanned_all _ _ _ _ _ _ s.invariant.1 (omega arith)
+returns c = let s = c.loop-f in spanned_all _ _ _ _ _ _ s.invariant (omega arith)

@@ -1,4 +1,5 @@
 -- `steps::spans::widened` meets its contract: only a number with a row widens the span.
+use native.Mathlib.Omega.{arith}
 use mir.Facts.{to_z-of_z}
 use Rattle.steps.proofs.Calming.{widened_by}
 use Rattle.steps.proofs.spans.widened.Goals as goal
@@ -6,5 +7,4 @@ use Rattle.steps.proofs.spans.widened.Goals as goal
 pub returns : goal.returns
 returns c =
     let f = c.ranges.value in
-    let g = c.greater.ensures in
-    widened_by _ _ _ (to_z-of_z f) f.sfits c.raised-x.ensures.0 c.lesser.ensures.0 c.lesser.ensures.1 g.0 g.1 g.2
+    widened_by _ _ _ (to_z-of_z f) f.sfits c.raised-x.ensures.0 (omega arith) (omega arith) (omega arith) (omega arith) (λ m. omega arith)

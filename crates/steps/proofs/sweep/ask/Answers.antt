@@ -13,7 +13,7 @@ use Rattle.steps.proofs.Levelling.{ask_is, filled-asked}
 use Rattle.steps.proofs.sweep.ask.Goals as goal
 
 pub loop-f-init : goal.loop-f-init
-loop-f-init c = (omega arith, refl, filled_none _ _)
+loop-f-init c = (refl, filled_none _ _)
 
 pub latest_below-requires : goal.latest_below-requires
 latest_below-requires c =
@@ -27,12 +27,11 @@ pub loop-f-preserved : goal.loop-f-preserved
 loop-f-preserved c =
     let p = c.requires in
     let g : mag (get_or c.args.value.now c.loop-f.f (pos 0)) < 2147483648 = omega arith in (
-      omega arith,
-      simp length-set c.loop-f.invariant.1,
-      filled-store _ c.loop-f.invariant.2 (omega (arith, p.0)) _
+      simp length-set c.loop-f.invariant.0,
+      filled-store _ c.loop-f.invariant.1 (omega (arith, p.0)) _
           (ask_is _ _ _ _ _ _ _ _ _ _ _ _ _ (given w32 g) g c.bound_of-bound.ensures c.latest_below.ensures.0 c.latest_below.ensures.1),
     )
 
 pub returns : goal.returns
 returns c =
-    filled-asked _ _ _ _ _ _ _ _ _ _ _ _ _ (to_z-of_z c.ranges.low) (to_z-of_z c.ranges.high) c.loop-f.invariant.2 (omega arith)
+    filled-asked _ _ _ _ _ _ _ _ _ _ _ _ _ (to_z-of_z c.ranges.low) (to_z-of_z c.ranges.high) c.loop-f.invariant.1 (omega arith)

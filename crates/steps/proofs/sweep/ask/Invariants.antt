@@ -1,5 +1,4 @@
 -- `steps::sweep::ask` meets its contract: below f each record has the answer of its search.
-use Prim.Native.Nat.{◌≤◌, ◌-◌}
 use mathlib.Core.Path.{◌≡◌}
 use lib.ListN.{length}
 use Rattle.prepare.proofs.Filling.{Filled}
@@ -7,7 +6,4 @@ use Rattle.steps.proofs.Levelling.{AskIs}
 use Rattle.steps.proofs.sweep.ask.Given as goal
 
 abbrev pub invariant-loop-f : goal.invariant-loop-f
-invariant-loop-f l = (l.f ≤ length l.value) × (length l.out ≡ length l.initial.out) × Filled (AskIs l.which l.value l.start l.days l.low l.high l.level l.below l.leap) l.f l.out
-
-abbrev pub decreases-loop-f : goal.decreases-loop-f
-decreases-loop-f l = length l.value - l.f
+invariant-loop-f l = (length l.out ≡ length l.initial.out) × Filled (AskIs l.which l.value l.start l.days l.low l.high l.level l.below l.leap) l.f l.out

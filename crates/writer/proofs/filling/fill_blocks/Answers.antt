@@ -1,26 +1,20 @@
 -- `writer::filling::fill_blocks` meets its contract: after each turn one block more stands behind those before it.
-use mathlib.Core.Path.{refl}
-use Prim.Native.Nat.{◌<◌, ◌-◌, ◌*◌}
+use Prim.Native.Nat.{◌<◌, ◌*◌}
 use native.Mathlib.Omega.{arith}
-use borrow.Author.Rules.{rules}
 use Rattle.meaning.specs.Block.{node_form, blocks_for}
-use Rattle.meaning.specs.Lent.{Lent, lent}
+use Rattle.document.specs.Front.{held}
 use Rattle.writer.proofs.Shares.{block_taken}
 use Rattle.writer.proofs.Puts.{lent-room}
 use Rattle.writer.proofs.Fillings.{blocks-none, blocks_more, blocks-all}
 use Rattle.writer.proofs.filling.fill_blocks.Goals as goal
-use Rattle.writer.proofs.filling.fill_blocks.Goals.{In-loop-b, Start}
-
--- the columns that were lent
-abbrev columns-at : Start → Lent
-columns-at c = lent c.args.kind.now c.args.vkind.now c.args.name.now c.args.parent.now c.args.begin.now c.args.end.now c.args.value.now c.args.item.now
+use Rattle.writer.proofs.filling.fill_blocks.Goals.{In-loop-b}
 
 -- block b is one of those that the records take
 within : (c : In-loop-b) → c.loop-b.b < blocks_for node_form c.args.n
-within c = omega (arith, c.blocks_for-count.ensures.0)
+within c = omega (arith, c.blocks_for-b-end.ensures.0)
 
 pub loop-b-init : goal.loop-b-init
-loop-b-init c = (search rules, refl, blocks-none _ _)
+loop-b-init c = blocks-none _ _
 
 pub fill_block-requires : goal.fill_block-requires
 fill_block-requires c =
@@ -28,16 +22,13 @@ fill_block-requires c =
       held = c.requires.1;
       few = c.requires.0;
       here = block_taken node_form (omega arith) c.args.n c.loop-b.b (within (goal.at.fill_block-requires c).In-loop-b);
-      fits = lent-room c.loop-b.image (512 * c.loop-b.b) 512 (omega (arith, within (goal.at.fill_block-requires c).In-loop-b, c.requires.2, c.loop-b.invariant.1));
+      fits = lent-room c.loop-b.image (512 * c.loop-b.b) 512 (omega (arith, within (goal.at.fill_block-requires c).In-loop-b, c.requires.2, c.loop-b.auto.image));
     }
 
 pub loop-b-preserved : goal.loop-b-preserved
-loop-b-preserved c = (
-  search rules,
-  search rules,
-  blocks_more c.args.n (columns-at (goal.at.loop-b-preserved c).Start) c.args.image.now c.loop-b.image _ c.loop-b.b c.loop-b.invariant.1 (omega (arith, within (goal.at.loop-b-preserved c).In-loop-b, c.requires.2)) c.loop-b.invariant.2 c.fill_block.ensures,
-)
+loop-b-preserved c =
+    blocks_more c.args.n (held c.args.records) c.args.image.now c.loop-b.image _ c.loop-b.b c.loop-b.auto.image (omega (arith, within (goal.at.loop-b-preserved c).In-loop-b, c.requires.2)) c.loop-b.invariant c.fill_block.ensures
 
 pub returns : goal.returns
 returns c =
-    blocks-all c.args.n (columns-at (goal.at.returns c).Start) c.args.image.now c.loop-b.image c.loop-b.b (omega (arith, c.blocks_for-count.ensures.0)) c.loop-b.invariant.2
+    blocks-all c.args.n (held c.args.records) c.args.image.now c.loop-b.image c.loop-b.b (omega (arith, c.blocks_for-b-end.ensures.0)) c.loop-b.invariant

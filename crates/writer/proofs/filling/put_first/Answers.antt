@@ -5,6 +5,6 @@ use Rattle.writer.proofs.filling.put_first.Goals as goal
 
 pub returns : goal.returns
 returns c =
-    let two = puts_on c.put_one.ensures refl c.put_one-2.ensures in
-    let six = puts_on (puts_on two refl c.put_two.ensures) refl c.put_two-2.ensures in
-    puts_on (puts_on six refl c.put_two-3.ensures) refl c.put_two-4.ensures
+    let two = puts_on c.put.ensures refl c.put-2.ensures in
+    let six = puts_on (puts_on two refl c.put-3.ensures) refl c.put-4.ensures in
+    puts_on (puts_on six refl c.put-5.ensures) refl c.put-6.ensures

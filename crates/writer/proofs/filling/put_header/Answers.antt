@@ -5,4 +5,4 @@ use Rattle.writer.proofs.filling.put_header.Goals as goal
 
 pub returns : goal.returns
 returns c =
-    puts_on (puts_on (puts_on c.put_four.ensures refl c.put_two.ensures) refl c.put_one.ensures) refl c.put_one-2.ensures
+    puts_on (puts_on (puts_on c.put.ensures refl c.put-2.ensures) refl c.put-3.ensures) refl c.put-4.ensures
