@@ -25,7 +25,7 @@ pub fn slice_of(columns: Columns, n: usize, day: usize, out: &mut [u16]) -> Resu
             place: 0,
         });
     }
-    lists::slices::slice_front(columns.front(n), day as u16, out)
+    lists::slices::slice_front(n, columns.all(), day as u16, out)
 }
 
 // The change days of a rule of the table: 11 where there is no such rule or it is not sequenced, then 12.
@@ -53,7 +53,7 @@ pub fn changes_of(
         });
     }
     let q = rules::referred_rule(rules, rule);
-    lists::turning::changes_front(columns.front(n), q, r, out)
+    lists::turning::changes_front(n, columns.all(), q, r, out)
 }
 
 // The verdict on rule k of the table, over the first n entries of the columns, with their survey. Cost: reading the rule, and the rule that it refers to, from the table; then the verdict on days or in windows.

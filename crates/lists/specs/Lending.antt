@@ -28,6 +28,17 @@ pub record Turnable (n : ℕ) (kinds names parents begins ends : List ℕ) : Typ
   pub periods : Periods doc (take (n - 0) begins) (take (n - 0) ends)
   pub judgeable : Judgeable doc
 
+-- the same of columns that are lent together
+abbrev pub TurnableIn : ℕ → Records → Type 0
+TurnableIn n r = Turnable n r.kind.now r.name.now r.parent.now r.begin.now r.end.now
+
+-- what the first n entries of these hold of a document
+abbrev pub TreeFront : Doc → ℕ → Records → Type 0
+TreeFront doc n r = Tree doc (take (n - 0) r.kind.now) (take (n - 0) r.name.now) (take (n - 0) r.parent.now)
+
+abbrev pub PeriodsFront : Doc → ℕ → Records → Type 0
+PeriodsFront doc n r = Periods doc (take (n - 0) r.begin.now) (take (n - 0) r.end.now)
+
 -- the periods of a document, and its versions by their begins and by their ends, so many of each
 pub record Along (doc : Doc) (begins ends opens : List ℕ) (opened : ℕ) (closes : List ℕ) (closed : ℕ) : Type 0 where
   pub periods : Periods doc begins ends

@@ -1,5 +1,5 @@
 // The slice of a day: the versions alive on it, marked and stored.
-ghost use Rattle.std.specs.Prelude.{◌≡◌, length};
+ghost use Rattle.std.specs.Prelude.{◌≡◌, ◌-◌, ◌≤◌, length, take};
 ghost use Rattle.meaning.specs.Reading.{Accepted};
 ghost use Rattle.meaning.specs.Block.{limit};
 ghost use Rattle.meaning.specs.Walk.{pick};
@@ -8,7 +8,7 @@ ghost use Rattle.meaning.specs.Day.{alive};
 ghost use Rattle.meaning.specs.Answer.{storing, lent_after};
 ghost use Rattle.columns.specs.Lent.{Lends, PeriodsOf};
 ghost use Rattle.marks.specs.Marks.{Marks};
-ghost use Rattle.lists.specs.Lending.{LivingIn};
+ghost use Rattle.lists.specs.Lending.{LivingIn, PeriodsFront};
 
 use columns::{LIMIT, Records};
 use meaning::Refusal;
@@ -26,7 +26,7 @@ fn mark_alive(records: Records<'_>, d: u16, marks: &mut [u8])
 }
 
 // The versions alive on day d, into a lent list. Cost: three looks at each record.
-pub fn slice_front(records: Records<'_>, d: u16, out: &mut [u16]) -> Result<usize, Refusal>
+fn slice_columns(records: Records<'_>, d: u16, out: &mut [u16]) -> Result<usize, Refusal>
     requires { LivingIn records limit }
     ensures answer { (doc : Doc) → Lends doc.size doc.kind 0 records.entry.kind.now → PeriodsOf doc records.entry → result ≡ storing Accepted (pick (alive doc d) 0 doc.size) out.old }
     ensures lent { (doc : Doc) → Lends doc.size doc.kind 0 records.entry.kind.now → PeriodsOf doc records.entry → out.new ≡ lent_after result (pick (alive doc d) 0 doc.size) out.old }
@@ -34,4 +34,24 @@ pub fn slice_front(records: Records<'_>, d: u16, out: &mut [u16]) -> Result<usiz
     let mut marks = [0u8; LIMIT];
     mark_alive(records, d, &mut marks);
     marks::store_marked(&marks, 0, records.kind.len(), out)
+}
+
+// The same over the first n entries of the columns.
+pub fn slice_front(
+    n: usize,
+    records: Records<'_>,
+    d: u16,
+    out: &mut [u16],
+) -> Result<usize, Refusal>
+    requires { (n ≤ limit) × (n ≤ length records.kind.now) × (n ≤ length records.begin.now) × (n ≤ length records.end.now) }
+    ensures answer { (doc : Doc) → Lends doc.size doc.kind 0 (take (n - 0) records.entry.kind.now) → PeriodsFront doc n records.entry → result ≡ storing Accepted (pick (alive doc d) 0 doc.size) out.old }
+    ensures lent { (doc : Doc) → Lends doc.size doc.kind 0 (take (n - 0) records.entry.kind.now) → PeriodsFront doc n records.entry → out.new ≡ lent_after result (pick (alive doc d) 0 doc.size) out.old }
+{
+    let front = Records {
+        kind: &records.kind[..n],
+        begin: &records.begin[..n],
+        end: &records.end[..n],
+        ..records
+    };
+    slice_columns(front, d, out)
 }

@@ -10,6 +10,7 @@ ghost use Rattle.meaning.specs.Answer.{storing, lent_after};
 ghost use Rattle.columns.specs.Lent.{TreeOf, PeriodsOf, HasTree};
 ghost use Rattle.columns.specs.Judgeable.{Judgeable};
 ghost use Rattle.marks.specs.Marks.{Marks};
+ghost use Rattle.lists.specs.Lending.{TurnableIn, TreeFront, PeriodsFront};
 
 use changes::merging::{Read, Walk, store_changes};
 use columns::{LIMIT, Records};
@@ -28,7 +29,7 @@ fn read_referred(records: Records<'_>, own: [u8; LIMIT], q: Rule, r: Rule) -> [u
 
 // The change days of rule r, which refers to q if it is a reference, into a lent list, along the versions by begin and by end.
 // Cost: three passes over the records, six for a reference, twice that of `orders::versions_by`, and that of `changes::merging::store_changes`.
-pub fn changes_front(
+fn changes_columns(
     records: Records<'_>,
     q: Rule,
     r: Rule,
@@ -55,4 +56,27 @@ pub fn changes_front(
         read,
     };
     store_changes(walk, r.begin, r.end, out)
+}
+
+// The same over the first n entries of the columns.
+pub fn changes_front(
+    n: usize,
+    records: Records<'_>,
+    q: Rule,
+    r: Rule,
+    out: &mut [u16],
+) -> Result<usize, Refusal>
+    requires { (rule_fields r ≡ true) × (is_reference r ≡ true → rule_fields q ≡ true) × TurnableIn n records }
+    ensures answer { (doc : Doc) → (p : Rule) → TreeFront doc n records.entry → PeriodsFront doc n records.entry → (is_reference r ≡ true → p ≡ q) → result ≡ storing Accepted (change_days doc p r) out.old }
+    ensures lent { (doc : Doc) → (p : Rule) → TreeFront doc n records.entry → PeriodsFront doc n records.entry → (is_reference r ≡ true → p ≡ q) → out.new ≡ lent_after result (change_days doc p r) out.old }
+{
+    let front = Records {
+        kind: &records.kind[..n],
+        name: &records.name[..n],
+        parent: &records.parent[..n],
+        begin: &records.begin[..n],
+        end: &records.end[..n],
+        ..records
+    };
+    changes_columns(front, q, r, out)
 }

@@ -1,8 +1,7 @@
 -- `bank::opened::changes_of` meets its contract: no such rule, a rule that is not sequenced, and the list.
-use Rattle.nodes.proofs.Held.{held-image}
 use Rattle.rules.proofs.Tables.{accepted-row, fields_of, fields_referred}
-use Rattle.opening.proofs.Opens.{accepted-both, alone}
-use Rattle.bank.proofs.Turning.{changes_none, changes_windowed, changes_stored, rule_here, turnable}
+use Rattle.opening.proofs.Opens.{accepted-both}
+use Rattle.bank.proofs.Turning.{changes_none, changes_windowed, rule_here, turnable_lent, changes-stored_lent}
 use Rattle.bank.proofs.opened.changes_of.Goals as goal
 
 pub count_rules-requires : goal.count_rules-requires
@@ -25,9 +24,6 @@ referred_rule-q-requires c =
     let o = c.requires.0 in
     ((accepted-both _ o.1 c.requires.1).1, rule_here o.0 _ c.args.rule c.args.out.now o.1 c.requires.1 c.count_rules.ensures c.if-count_rules-rule.false)
 
-pub front-requires : goal.front-requires
-front-requires c = let o = c.requires.0 in (held-image o.0 o.1.columns.answer (alone _ o.1 c.requires.1)).few
-
 pub changes_front-requires : goal.changes_front-requires
 changes_front-requires c =
     let o = c.requires.0 in
@@ -35,10 +31,10 @@ changes_front-requires c =
     let here = rule_here o.0 _ c.args.rule c.args.out.now o.1 c.requires.1 c.count_rules.ensures c.if-count_rules-rule.false in (
       fields_of c.args.rules.now ok c.args.rule here c.rule_at-r.ensures,
       λ e. (fields_referred c.args.rules.now ok c.args.rule here c.rule_at-r.ensures c.referred_rule-q.ensures e).0,
-      turnable o.0 _ c.args.rule c.args.out.now o.1 c.requires.1 c.count_rules.ensures c.if-count_rules-rule.false c.rule_at-r.ensures c.front.ensures,
+      turnable_lent o.0 _ c.args.rule c.args.out.now o.1 c.requires.1 c.count_rules.ensures c.if-count_rules-rule.false c.rule_at-r.ensures c.all.ensures,
     )
 
 pub returns : goal.returns
 returns c nodes o =
-    changes_stored nodes _ _ _ o c.requires.1 c.count_rules.ensures c.if-count_rules-rule.false c.rule_at-r.ensures c.front.ensures c.if-r-ne0.false c.referred_rule-q.ensures
+    changes-stored_lent nodes _ _ _ o c.requires.1 c.count_rules.ensures c.if-count_rules-rule.false c.rule_at-r.ensures c.all.ensures c.if-r-ne0.false c.referred_rule-q.ensures
     (λ doc p t w e. c.changes_front.ensures.answer doc p t w e) (λ doc p t w e. c.changes_front.ensures.lent doc p t w e)

@@ -1,8 +1,8 @@
--- `lists::slices::slice_front` meets its contract: the versions alive are marked, and the marked ones stored.
+-- `lists::slices::slice_columns` meets its contract: the versions alive are marked, and the marked ones stored.
 use Rattle.marks.proofs.Listing.{picked_all}
 use Rattle.lists.proofs.Marking.{answer-of, lent_of}
 use Rattle.meaning.specs.Day.{alive}
-use Rattle.lists.proofs.slices.slice_front.Goals as goal
+use Rattle.lists.proofs.slices.slice_columns.Goals as goal
 
 pub returns : goal.returns
 returns c =
