@@ -36,6 +36,10 @@ pub fn judge(nodes: &[u8], rules: &[u8], rule: usize) -> Result<Judged, Refusal>
     ensures { VerdictPromise nodes.now rules.now rule (verdict_in result) }
 {
     let columns = opening::open(nodes, rules);
-    let n = columns.loaded?;
+    // not `?`, so that the edit that answers another refusal here is refused by a fact
+    let n = match columns.loaded {
+        Ok(n) => n,
+        Err(why) => return Err(why),
+    };
     judge_opened(columns, n, rules, rule)
 }

@@ -1,17 +1,9 @@
 -- `bank::looking::judge` meets its contract: a refusal of either image, or what their columns and table give.
-use Rattle.std.proofs.Common.{◌≡◌, sym, subst, rules}
-use Rattle.meaning.specs.Reading.{Refused}
-use Rattle.opening.specs.Promises.{VerdictPromise}
-use Rattle.bank.specs.Found.{verdict_in}
 use Rattle.bank.proofs.Judged.{verdict-refused}
 use Rattle.bank.proofs.looking.judge.Goals as goal
 
-pub returns-in_err-n : goal.returns-in_err-n
-returns-in_err-n c =
-    let a = c.args in
-    let why = c.in_err-n.field-0.0 in
-    let same : c.from_residual.result ≡ Refused why.number why.place = search (rules, c.from_residual.ensures) in
-    subst (λ x. VerdictPromise a.nodes.now a.rules.now a.rule (verdict_in x)) (sym same) (verdict-refused _ _ _ c.open-columns.ensures c.in_err-n.was)
+pub returns-in-Err : goal.returns-in-Err
+returns-in-Err c = verdict-refused _ _ _ c.open-columns.ensures c.in-Err.is
 
 pub returns : goal.returns
 returns c = c.judge_opened.ensures _ c.open-columns.ensures
