@@ -2,7 +2,7 @@
 // `past` and `past_j` are one past a record of a chain, and 0 at its end.
 #![tactic(auto)]
 
-ghost use Rattle.std.specs.Prelude.{◌≡◌, ◌&&◌, ◌||◌, ℕ, ◌<◌, ◌≤◌, leb, ltb, length};
+ghost use Rattle.std.specs.Prelude.{◌≡◌, ◌&&◌, ◌||◌, ℕ, ◌-◌, ◌<◌, ◌≤◌, leb, ltb, length, take};
 ghost use Rattle.meaning.specs.Reading.{Accepted};
 ghost use Rattle.meaning.specs.Block.{limit};
 ghost use Rattle.meaning.specs.Walk.{any};
@@ -10,7 +10,7 @@ ghost use Rattle.meaning.specs.Document.{Doc};
 ghost use Rattle.meaning.specs.Day.{present_on, slice};
 ghost use Rattle.meaning.specs.Answer.{storing, lent_after};
 ghost use Rattle.columns.specs.Chains.{past_last};
-ghost use Rattle.columns.specs.Lent.{Lends, PeriodsOf};
+ghost use Rattle.columns.specs.Lent.{Lends, Periods, PeriodsOf};
 ghost use Rattle.columns.specs.Judgeable.{Judgeable};
 ghost use Rattle.marks.specs.Marks.{marked, Marks};
 ghost use Rattle.descent.specs.Descent.{current_of, item_in, comes, Single};
@@ -104,7 +104,7 @@ pub fn present_on(chains: Chains, d: u16) -> [u8; LIMIT]
 }
 
 // The slice of day d, into a lent list. Cost: a pass over the columns for each chain, the descent, and two looks at each record.
-pub fn slice_front(records: Records<'_>, d: u16, out: &mut [u16]) -> Result<usize, Refusal>
+pub fn slice_columns(records: Records<'_>, d: u16, out: &mut [u16]) -> Result<usize, Refusal>
     requires { (doc : Doc) × Lends doc.size doc.kind 0 records.kind.now × Lends doc.size doc.parent 0 records.parent.now × PeriodsOf doc records × Judgeable doc × Single doc }
     ensures answer { (doc : Doc) → Lends doc.size doc.kind 0 records.entry.kind.now → Lends doc.size doc.parent 0 records.entry.parent.now → PeriodsOf doc records.entry → Judgeable doc → Single doc → result ≡ storing Accepted (slice doc d) out.old }
     ensures lent { (doc : Doc) → Lends doc.size doc.kind 0 records.entry.kind.now → Lends doc.size doc.parent 0 records.entry.parent.now → PeriodsOf doc records.entry → Judgeable doc → Single doc → out.new ≡ lent_after result (slice doc d) out.old }
@@ -121,4 +121,25 @@ pub fn slice_front(records: Records<'_>, d: u16, out: &mut [u16]) -> Result<usiz
     };
     let seen = present_on(chains, d);
     marks::store_marked(&seen, 0, records.kind.len(), out)
+}
+
+// The same over the first n entries of the columns.
+pub fn slice_front(
+    n: usize,
+    records: Records<'_>,
+    d: u16,
+    out: &mut [u16],
+) -> Result<usize, Refusal>
+    requires { (n ≤ length records.kind.now) × (n ≤ length records.parent.now) × (n ≤ length records.begin.now) × (n ≤ length records.end.now) × ((doc : Doc) × Lends doc.size doc.kind 0 (take (n - 0) records.kind.now) × Lends doc.size doc.parent 0 (take (n - 0) records.parent.now) × Periods doc (take (n - 0) records.begin.now) (take (n - 0) records.end.now) × Judgeable doc × Single doc) }
+    ensures answer { (doc : Doc) → Lends doc.size doc.kind 0 (take (n - 0) records.entry.kind.now) → Lends doc.size doc.parent 0 (take (n - 0) records.entry.parent.now) → Periods doc (take (n - 0) records.entry.begin.now) (take (n - 0) records.entry.end.now) → Judgeable doc → Single doc → result ≡ storing Accepted (slice doc d) out.old }
+    ensures lent { (doc : Doc) → Lends doc.size doc.kind 0 (take (n - 0) records.entry.kind.now) → Lends doc.size doc.parent 0 (take (n - 0) records.entry.parent.now) → Periods doc (take (n - 0) records.entry.begin.now) (take (n - 0) records.entry.end.now) → Judgeable doc → Single doc → out.new ≡ lent_after result (slice doc d) out.old }
+{
+    let front = Records {
+        kind: &records.kind[0..n],
+        parent: &records.parent[0..n],
+        begin: &records.begin[0..n],
+        end: &records.end[0..n],
+        ..records
+    };
+    slice_columns(front, d, out)
 }

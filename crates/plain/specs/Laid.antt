@@ -1,5 +1,5 @@
--- What the plain engine asks of columns: a document that can be judged, no item of which has two current versions; and images read into such columns.
-use Rattle.std.specs.Prelude.{◌≡◌, true, false, List, ℕ, ℤ}
+-- What the plain engine asks of columns: a document that can be judged, no item of which has two current versions; and two images read into such columns.
+use Rattle.std.specs.Prelude.{◌≡◌, true, false, List, ℕ, ◌-◌, ◌≤◌, ℤ, length, take}
 use Rattle.meaning.specs.declared.Rule.{Rule}
 use Rattle.meaning.specs.Reading.{Accepted}
 use Rattle.meaning.specs.Document.{Doc}
@@ -34,13 +34,15 @@ LaidOf doc r = Laid doc r.kind.now r.vkind.now r.name.now r.parent.now r.begin.n
 abbrev pub ChosenOf : Doc → Rule → Choice → Type 0
 ChosenOf doc q c = Chosen doc q c.other c.rule c.own.now c.held.now
 
--- an image is accepted, and the columns hold its records
-pub record Held (nodes : List ℕ) (r : Records) : Type 0 where
-  pub accepted : read_nodes nodes ≡ Accepted
-  pub laid : LaidOf (doc_of nodes) r
-
--- both images are accepted, and the columns hold the records of the first
-pub record Read (nodes rules : List ℕ) (r : Records) : Type 0 where
+-- both images are accepted, and the first n entries of the seven columns hold the records of the first
+pub record Read (nodes rules : List ℕ) (n : ℕ) (r : Records) : Type 0 where
   pub accepted : read_nodes nodes ≡ Accepted
   pub table : read_rules rules ≡ Accepted
-  pub laid : LaidOf (doc_of nodes) r
+  pub kind : n ≤ length r.kind.now
+  pub vkind : n ≤ length r.vkind.now
+  pub name : n ≤ length r.name.now
+  pub parent : n ≤ length r.parent.now
+  pub begin : n ≤ length r.begin.now
+  pub end : n ≤ length r.end.now
+  pub value : n ≤ length r.value.now
+  pub laid : Laid (doc_of nodes) (take (n - 0) r.kind.now) (take (n - 0) r.vkind.now) (take (n - 0) r.name.now) (take (n - 0) r.parent.now) (take (n - 0) r.begin.now) (take (n - 0) r.end.now) (take (n - 0) r.value.now)

@@ -17,7 +17,7 @@ pub fn slice(nodes: &[u8], day: usize, out: &mut [u16]) -> Result<usize, Refusal
 {
     let columns = opening::open_nodes(nodes);
     let n = columns.loaded?;
-    opened::slice_of(columns.front(n), day, out)
+    opened::slice_of(columns, n, day, out)
 }
 
 // The verdict on a sequenced rule: holds, with how many change days its period has; fails, with the first failing day, the lowest offending
@@ -28,5 +28,5 @@ pub fn verdict(nodes: &[u8], rules: &[u8], rule: usize) -> Result<Verdict, Refus
 {
     let columns = opening::open(nodes, rules);
     let n = columns.loaded?;
-    opened::verdict_opened(columns.front(n), rules, rule)
+    opened::verdict_opened(columns, n, rules, rule)
 }

@@ -1,5 +1,5 @@
 // The plain answers over opened images: what the two calls, and a report on many rules, ask of columns and an accepted table.
-ghost use Rattle.std.specs.Prelude.{◌≡◌, true, false, List, ℕ, ◌≤◌, ◌<◌, length};
+ghost use Rattle.std.specs.Prelude.{◌≡◌, true, false, List, ℕ, ◌≤◌, ◌<◌, length, Ok};
 ghost use Rattle.meaning.specs.declared.Rule.{Rule};
 ghost use Rattle.meaning.specs.Document.{Doc};
 ghost use Rattle.meaning.specs.Rules.{is_reference, rule_fields, rules_of};
@@ -8,14 +8,16 @@ ghost use Rattle.meaning.specs.Day.{on_days};
 ghost use Rattle.columns.specs.Lent.{Periods};
 ghost use Rattle.columns.specs.Judgeable.{Judgeable};
 ghost use Rattle.marks.specs.Marks.{Marks};
+ghost use Rattle.nodes.specs.Unpacking.{Unpacks};
+ghost use Rattle.opening.specs.Opening.{Opens};
 ghost use Rattle.opening.specs.Promises.{SlicePromise, SequencedPromise};
-ghost use Rattle.plain.specs.Laid.{LaidOf, Held, Read};
+ghost use Rattle.plain.specs.Laid.{LaidOf, Read};
 ghost use Rattle.plain.specs.Walking.{Stopped};
 
 use crate::counting::count_changes;
 use crate::days::{Choice, Failing, first_failing};
-use columns::Records;
 use columns::chains::chain;
+use columns::{Columns, Records};
 use descent::Chains;
 use meaning::{Refusal, Rule, Verdict};
 
@@ -23,9 +25,9 @@ use meaning::{Refusal, Rule, Verdict};
 const LAST: usize = 36524;
 
 // The slice of a day.
-pub fn slice_of(records: Records, day: usize, out: &mut [u16]) -> Result<usize, Refusal>
-    requires { (nodes : List ℕ) × Held nodes records }
-    ensures { (nodes : List ℕ) → Held nodes records.entry → SlicePromise nodes day out.old result out.new }
+pub fn slice_of(columns: Columns, n: usize, day: usize, out: &mut [u16]) -> Result<usize, Refusal>
+    requires { ((nodes : List ℕ) × Unpacks nodes columns) × (columns.loaded ≡ Ok n) }
+    ensures { (nodes : List ℕ) → Unpacks nodes columns → SlicePromise nodes day out.old result out.new }
 {
     if LAST < day {
         return Err(Refusal {
@@ -33,7 +35,7 @@ pub fn slice_of(records: Records, day: usize, out: &mut [u16]) -> Result<usize, 
             place: 0,
         });
     }
-    descent::slice_front(records, day as u16, out)
+    descent::slice_front(n, columns.all(), day as u16, out)
 }
 
 // The verdict that a walk over the days comes to: `read` marks the versions that the rule reads. Cost: that of the count.
@@ -80,11 +82,11 @@ fn judge_columns(records: Records, other: Rule, r: Rule) -> Verdict
     told(stop, &read, records.begin, records.end, r)
 }
 
-// The verdict on rule k of the table: 11 where it is not sequenced. Cost: reading the rule, and the rule that it refers to, from the table; then
-// the verdict.
-pub fn verdict_of(records: Records, rules: &[u8], k: usize) -> Result<Verdict, Refusal>
-    requires { (k < length (rules_of rules.now)) × ((nodes : List ℕ) × Read nodes rules.now records) }
-    ensures { (nodes : List ℕ) → Read nodes rules.now records.entry → SequencedPromise nodes rules.now k result }
+// The verdict on rule k of the table, over the first n entries of the columns: 11 where it is not sequenced. Cost: reading the rule, and the rule
+// that it refers to, from the table; then the verdict.
+pub fn verdict_of(n: usize, records: Records, rules: &[u8], k: usize) -> Result<Verdict, Refusal>
+    requires { (k < length (rules_of rules.now)) × ((nodes : List ℕ) × Read nodes rules.now n records) }
+    ensures { (nodes : List ℕ) → Read nodes rules.now n records.entry → SequencedPromise nodes rules.now k result }
 {
     let r = rules::rule_at(rules, k);
     if r.windowed != 0 {
@@ -94,13 +96,28 @@ pub fn verdict_of(records: Records, rules: &[u8], k: usize) -> Result<Verdict, R
         });
     }
     let other = rules::referred_rule(rules, k);
-    Ok(judge_columns(records, other, r))
+    let front = Records {
+        kind: &records.kind[0..n],
+        vkind: &records.vkind[0..n],
+        name: &records.name[0..n],
+        parent: &records.parent[0..n],
+        begin: &records.begin[0..n],
+        end: &records.end[0..n],
+        value: &records.value[0..n],
+        ..records
+    };
+    Ok(judge_columns(front, other, r))
 }
 
 // What is found of a rule of opened images: 11 where there is no such rule, then the verdict.
-pub fn verdict_opened(records: Records, rules: &[u8], rule: usize) -> Result<Verdict, Refusal>
-    requires { (nodes : List ℕ) × Read nodes rules.now records }
-    ensures { (nodes : List ℕ) → Read nodes rules.now records.entry → SequencedPromise nodes rules.now rule result }
+pub fn verdict_opened(
+    columns: Columns,
+    n: usize,
+    rules: &[u8],
+    rule: usize,
+) -> Result<Verdict, Refusal>
+    requires { ((nodes : List ℕ) × Opens nodes rules.now columns) × (columns.loaded ≡ Ok n) }
+    ensures { (nodes : List ℕ) → Opens nodes rules.now columns → SequencedPromise nodes rules.now rule result }
 {
     if rules::count_rules(rules) <= rule {
         return Err(Refusal {
@@ -108,5 +125,5 @@ pub fn verdict_opened(records: Records, rules: &[u8], rule: usize) -> Result<Ver
             place: 0,
         });
     }
-    verdict_of(records, rules, rule)
+    verdict_of(n, columns.all(), rules, rule)
 }

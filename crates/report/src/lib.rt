@@ -26,10 +26,9 @@ pub enum Engine {
     Plain,
 }
 
-// Opened images, as their rules are judged on: the document's own columns, and the columns that it stands at the front of, with its survey.
+// Opened images, as their rules are judged on: the columns that the document stands at the front of, how far it goes, and its survey.
 #[derive(Clone, Copy)]
 struct Opened<'a> {
-    front: Records<'a>,
     n: usize,
     all: Records<'a>,
     of: Surveyed<'a>,
@@ -44,7 +43,7 @@ fn verdict_by(opened: Opened, engine: Engine, rules: &[u8], k: usize) -> Result<
     if engine == Engine::Plain {
         let r = rules::rule_at(rules, k);
         if r.windowed == 0 {
-            return plain::opened::verdict_of(opened.front, rules, k);
+            return plain::opened::verdict_of(opened.n, opened.all, rules, k);
         }
     }
     let found = bank::opened::verdict_of(opened.n, opened.all, opened.of, opened.many, rules, k);
@@ -71,8 +70,7 @@ fn put_table(text: &mut [u8], rules: &[u8], columns: Columns, n: usize, engine: 
     ensures { (nodes : List ℕ) → Opens nodes rules.now columns → Puts text.old 0 (report_of nodes rules.now) text.new result }
 {
     let at = spelling::lines::put_header(text);
-    let front = columns.front(n);
-    let found = survey::survey_columns(front);
+    let found = survey::survey_columns(columns.front(n));
     let of = Surveyed {
         rep: &found.rep,
         group: &found.group,
@@ -80,7 +78,6 @@ fn put_table(text: &mut [u8], rules: &[u8], columns: Columns, n: usize, engine: 
         closes: &found.closes,
     };
     let opened = Opened {
-        front,
         n,
         all: columns.all(),
         of,

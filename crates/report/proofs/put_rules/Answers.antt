@@ -6,7 +6,7 @@ use Rattle.report.proofs.Texts.{promised, rules_none, rules_more, rules_all}
 use Rattle.report.proofs.put_rules.Goals as goal
 
 pub count_rules-all-requires : goal.count_rules-all-requires
-count_rules-all-requires c = c.requires.1.read.table
+count_rules-all-requires c = c.requires.1.table
 
 pub loop-k-init : goal.loop-k-init
 loop-k-init c = (refl, λ nodes o. rules_none _ _ _)
