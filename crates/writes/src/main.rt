@@ -118,26 +118,22 @@ fn digit(x: u8) -> u8
     if x < 10 { 48 + x } else { 87 + x }
 }
 
-// A byte in two digits.
-fn put_byte(text: &mut [u8], at: usize, b: u8) -> usize {
-    let digits = [digit(b / 16), digit(b % 16)];
-    spelling::put(text, at, &digits)
-}
-
-// A line feed where a line has its bytes, or the image ends.
-fn put_end(text: &mut [u8], at: usize, i: usize, n: usize) -> usize {
-    if (i % ROW == 0) | (i == n) {
-        return spelling::put(text, at, b"\n");
+// At most ROW bytes in two digits each, and a line feed: one piece, since a copy costs the more the shorter its pieces are.
+fn put_row(text: &mut [u8], at: usize, row: &[u8]) -> usize {
+    let mut line = [b'\n'; 2 * ROW + 1];
+    let n = row.len().min(ROW);
+    for i in 0..n {
+        line[2 * i] = digit(row[i] / 16);
+        line[2 * i + 1] = digit(row[i] % 16);
     }
-    at
+    spelling::put(text, at, &line[..2 * n + 1])
 }
 
 // An image in lines of digits.
 fn put_image(text: &mut [u8], at: usize, image: &[u8]) -> usize {
     let mut to = at;
-    for (i, byte) in image.iter().enumerate() {
-        to = put_byte(text, to, *byte);
-        to = put_end(text, to, i + 1, image.len());
+    for row in image.chunks(ROW) {
+        to = put_row(text, to, row);
     }
     to
 }
